@@ -1,5 +1,7 @@
 -- The refusals: the number and the layer of each, and what joins one on its way up.
 use Prim.Native.Nat.{ℕ}
+use Rattle.std.specs.declared.result.Result.{Result}
+use Rattle.std.specs.declared.result.Result.the-variants.{Ok, Err}
 use Rattle.refusal.specs.declared.fault.Cause.{Cause}
 use Rattle.refusal.specs.declared.fault.Cause.the-variants.{TooLong, CutOff, BadTag, BadLength, Unread, EndsEarly, PastDone, NoSuch, NoRoom, DraftOpen, NoDraft, BadWidth, FewEntries, BadForm}
 use Rattle.refusal.specs.declared.fault.Layer.{Layer}
@@ -52,3 +54,12 @@ in-field f place k = fault (f .cause) place (f .«record») k
 
 abbrev pub in-record : Fault → ℕ → Fault
 in-record f n = fault (f .cause) (f .place) n (f .field)
+
+-- what joins the refusal of an outcome, if it is one
+abbrev pub fielded : {T : Type 0} → Result T Fault → ℕ → ℕ → Result T Fault
+fielded (Ok x) place k = Ok x
+fielded (Err f) place k = Err (in-field f place k)
+
+abbrev pub recorded : {T : Type 0} → Result T Fault → ℕ → Result T Fault
+recorded (Ok x) n = Ok x
+recorded (Err f) n = Err (in-record f n)

@@ -1,5 +1,5 @@
 ghost use mathlib.Core.Path.{_≡_};
-ghost use Rattle.refusal.specs.Faults.{number, layer, fault, in-field, in-record};
+ghost use Rattle.refusal.specs.Faults.{number, layer, fault, in-field, in-record, fielded, recorded};
 
 // Why a call is refused.
 #[derive(Clone, Copy, PartialEq, Eq, Debug)]
@@ -108,5 +108,25 @@ impl Fault {
         ensures { λ r. ⌜ r ≡ in-record self «record» ⌝ }
     {
         Fault { cause: self.cause, place: self.place, record, field: self.field }
+    }
+}
+
+// An outcome whose refusal, if it is one, is joined by the place and number of the field that it arose in.
+pub fn at_field<T>(outcome: Result<T, Fault>, place: usize, field: usize) -> Result<T, Fault>
+    ensures { λ r. ⌜ r ≡ fielded outcome place field ⌝ }
+{
+    match outcome {
+        Ok(x) => Ok(x),
+        Err(f) => Err(f.in_field(place, field)),
+    }
+}
+
+// An outcome whose refusal, if it is one, is joined by the number of the record that it arose in.
+pub fn at_record<T>(outcome: Result<T, Fault>, record: usize) -> Result<T, Fault>
+    ensures { λ r. ⌜ r ≡ recorded outcome «record» ⌝ }
+{
+    match outcome {
+        Ok(x) => Ok(x),
+        Err(f) => Err(f.in_record(record)),
     }
 }

@@ -1,0 +1,13 @@
+pub mod Digits
+pub mod Lists
+pub mod Unique
+pub mod Apart
+pub mod Standing
+pub mod Whole
+pub mod Decide
+pub mod Fielding
+pub mod Leading
+pub mod Looking
+pub mod OneFault
+pub mod Either
+pub mod Placing

@@ -1,0 +1,3 @@
+pub mod area;
+pub mod law;
+pub mod seen;

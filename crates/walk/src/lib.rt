@@ -1,0 +1,4 @@
+pub mod fields;
+pub mod header;
+pub mod look;
+pub mod records;
