@@ -3,7 +3,6 @@ ghost use mathlib.Core.List.{List};
 ghost use Prim.Native.Nat.{ℕ};
 ghost use Rattle.book.specs.Empty.{nothing, none-stand, empty-laws};
 ghost use Rattle.book.specs.Marks.{Started, Asked, Passed, Valued, Spelling};
-
 use crate::Book;
 use crate::answer::Answer;
 use refusal::fault::Cause;

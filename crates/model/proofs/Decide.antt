@@ -32,11 +32,11 @@ all-below : (P : ℕ → Type 0) → ((i : ℕ) → Or (P i)) → (n : ℕ) → 
 all-below P d zero = inl (λ i h. let bad : ⊥ = omega arith in never bad)
 all-below P d (suc n) =
     elim (all-below P d n) [
-      inl f ↦ elim (d n) [
-        inl x ↦ inl (λ i h. elim (cases-lt i n) [ inl k ↦ f i k | inr k ↦ let e : n ≡ i = omega arith in subst P e x ])
-      | inr x ↦ inr (λ g. x (g n (omega arith)))
+      | inl f ↦ elim (d n) [
+        | inl x ↦ inl (λ i h. elim (cases-lt i n) [ inl k ↦ f i k | inr k ↦ let e : n ≡ i = omega arith in subst P e x ])
+        | inr x ↦ inr (λ g. x (g n (omega arith)))
       ]
-    | inr f ↦ inr (λ g. f (λ i h. g i (omega arith)))
+      | inr f ↦ inr (λ g. f (λ i h. g i (omega arith)))
     ]
 
 le-or : (a b : ℕ) → Or (a ≤ b)
@@ -59,14 +59,14 @@ not-or (inr p) = inl p
 pub good-or : (tag : List ℕ) → Or (GoodTag tag)
 good-or tag =
     elim (cases-eq (length tag) 6) [
-      inr e ↦ inr (λ g. e (g .six))
-    | inl e ↦ elim (all-below (λ i. (32 ≤ getD tag i 0) × (getD tag i 0 ≤ 126)) (λ i. and-or (le-or 32 (getD tag i 0)) (le-or (getD tag i 0) 126)) 6) [
-        inr p ↦ inr (λ g. p (g .plain))
-      | inl p ↦ elim (cases-eq (getD tag 0 0) 32) [
-          inl f ↦ inr (λ g. g .first f)
-        | inr f ↦ elim (all-below (λ i. i + 1 < 6 → getD tag i 0 ≡ 32 → getD tag (i + 1) 0 ≡ 32) (λ i. to-or (le-or (suc (i + 1)) 6) (to-or (cases-eq (getD tag i 0) 32) (cases-eq (getD tag (i + 1) 0) 32))) 6) [
-            inr a ↦ inr (λ g. a (λ i h. g .after i))
-          | inl a ↦ inl (record { six = e; plain = p; first = f; after = λ i h. a i (omega arith) h })
+      | inr e ↦ inr (λ g. e (g .six))
+      | inl e ↦ elim (all-below (λ i. (32 ≤ getD tag i 0) × (getD tag i 0 ≤ 126)) (λ i. and-or (le-or 32 (getD tag i 0)) (le-or (getD tag i 0) 126)) 6) [
+        | inr p ↦ inr (λ g. p (g .plain))
+        | inl p ↦ elim (cases-eq (getD tag 0 0) 32) [
+          | inl f ↦ inr (λ g. g .first f)
+          | inr f ↦ elim (all-below (λ i. i + 1 < 6 → getD tag i 0 ≡ 32 → getD tag (i + 1) 0 ≡ 32) (λ i. to-or (le-or (suc (i + 1)) 6) (to-or (cases-eq (getD tag i 0) 32) (cases-eq (getD tag (i + 1) 0) 32))) 6) [
+            | inr a ↦ inr (λ g. a (λ i h. g .after i))
+            | inl a ↦ inl (record { six = e; plain = p; first = f; after = λ i h. a i (omega arith) h })
           ]
         ]
       ]
@@ -87,7 +87,6 @@ abbrev pub Told : {V : Type 0} → Meaning V → ℕ → List ℕ → ℕ → Li
 Told m n tag base p d k = Cut m tag p d ⊎ ((f : Fault) × Fails m false n tag base p d k f)
 
 module _ {V : Type 0} {m : Meaning V} (laws : Laws m) (n : ℕ) (tag : List ℕ) (base : ℕ) where
-
   mutual-step : (p d : List ℕ) (k name w : ℕ) → m .asks tag p ≡ Field name w → w ≤ length d → ((v : V) → m .reads tag p (take w d) ≡ Some v → Told m n tag base (p ++ take w d) (drop w d) (k + 1)) → (o : Option V) → m .reads tag p (take w d) ≡ o → Told m n tag base p d k
   mutual-step p d k name w a h go None e =
       let l : length (take w d) ≡ w = length-take-le w d h in
@@ -95,22 +94,22 @@ module _ {V : Type 0} {m : Meaning V} (laws : Laws m) (n : ℕ) (tag : List ℕ)
   mutual-step p d k name w a h go (Some v) e =
       let l : length (take w d) ≡ w = length-take-le w d h in
       elim (go v e) [
-        inl c ↦ inl (record {
+        | inl c ↦ inl (record {
           spellings = take w d ∷ c .spellings;
           fields = record { name = name; value = read v } ∷ c .fields;
           are = next (a ∙ ap (Field name) (sym l)) e (c .are);
           bytes = ap (λ x. take w d ++ x) (c .bytes) ∙ take-append-drop w d;
           done = subst (λ x. m .asks tag x ≡ Done) (append-assoc p (take w d) (joined (c .spellings))) (c .done);
         })
-      | inr f ↦ inr (f .0, later {name = name} {v = v} (take w d) (drop w d) (a ∙ ap (Field name) (sym l)) (sym (take-append-drop w d)) e (f .1))
+        | inr f ↦ inr (f .0, later {name = name} {v = v} (take w d) (drop w d) (a ∙ ap (Field name) (sym l)) (sym (take-append-drop w d)) e (f .1))
       ]
 
   pub told : (fuel : ℕ) (p d : List ℕ) (k : ℕ) → length d ≤ fuel → (x : Answer) → m .asks tag p ≡ x → Told m n tag base p d k
   told fuel p d k h Done e =
       elim (cases-lt 0 (length d)) [
-        inl l ↦ inr (fault PastDone (base + length p) n 0, past e l)
-      | inr l ↦ let nil : d ≡ [] = nil-from-length d (omega arith) in
-          inl (record { spellings = []; fields = []; are = none; bytes = sym nil; done = subst (λ x. m .asks tag x ≡ Done) (sym (append-nil p)) e })
+        | inl l ↦ inr (fault PastDone (base + length p) n 0, past e l)
+        | inr l ↦ let nil : d ≡ [] = nil-from-length d (omega arith) in
+            inl (record { spellings = []; fields = []; are = none; bytes = sym nil; done = subst (λ x. m .asks tag x ≡ Done) (sym (append-nil p)) e })
       ]
   told zero p d k h (Field name w) e =
       let v = laws .wide tag p name w e .0 in
@@ -118,6 +117,6 @@ module _ {V : Type 0} {m : Meaning V} (laws : Laws m) (n : ℕ) (tag : List ℕ)
   told (suc fuel) p d k h (Field name w) e =
       let v = laws .wide tag p name w e .0 in
       elim (cases-lt (length d) w) [
-        inl l ↦ inr (fault EndsEarly (base + length p) n k, ends {name = name} {w = w} e l (λ z. never (clash-bool z)))
-      | inr l ↦ mutual-step p d k name w e l (λ u r. told fuel (p ++ take w d) (drop w d) (k + 1) (let q = length-drop w d in omega arith) (m .asks tag (p ++ take w d)) refl) (m .reads tag p (take w d)) refl
+        | inl l ↦ inr (fault EndsEarly (base + length p) n k, ends {name = name} {w = w} e l (λ z. never (clash-bool z)))
+        | inr l ↦ mutual-step p d k name w e l (λ u r. told fuel (p ++ take w d) (drop w d) (k + 1) (let q = length-drop w d in omega arith) (m .asks tag (p ++ take w d)) refl) (m .reads tag p (take w d)) refl
       ]

@@ -33,22 +33,22 @@ some-below : (P : ℕ → Type 0) → ((i : ℕ) → P i ⊎ (P i → ⊥)) → 
 some-below P d zero = inr (λ i h p. let bad : ⊥ = omega arith in bad)
 some-below P d (suc n) =
     elim (d n) [
-      inl p ↦ inl (n, p)
-    | inr p ↦ elim (some-below P d n) [
-        inl q ↦ inl q
-      | inr q ↦ inr (λ i h r. elim (cases-lt i n) [ inl k ↦ q i k r | inr k ↦ (let e : i ≡ n = omega arith in p (subst P e r)) ])
+      | inl p ↦ inl (n, p)
+      | inr p ↦ elim (some-below P d n) [
+        | inl q ↦ inl q
+        | inr q ↦ inr (λ i h r. elim (cases-lt i n) [ inl k ↦ q i k r | inr k ↦ (let e : i ≡ n = omega arith in p (subst P e r)) ])
       ]
     ]
 
 says-or : (five : List ℕ) → ((k : ℕ) × Says five k) ⊎ ((k : ℕ) → Says five k → ⊥)
 says-or five =
     let one : (k : ℕ) → Says five k ⊎ (Says five k → ⊥) = λ k. elim (same-or five (digits5 k)) [
-        inr e ↦ inr (λ s. e (s .0))
+      | inr e ↦ inr (λ s. e (s .0))
       | inl e ↦ elim (cases-lt 0 k) [
-          inr h ↦ inr (λ s. let z = s .1 in omega arith)
+        | inr h ↦ inr (λ s. let z = s .1 in omega arith)
         | inl h ↦ elim (cases-lt 99985 k) [ inl j ↦ inr (λ s. let z = s .2 in omega arith) | inr j ↦ inl (e, h, j) ]
-        ]
-      ] in
+      ]
+    ] in
     elim (some-below (Says five) one 99986) [ inl x ↦ inl x | inr h ↦ inr (λ k s. let z = s .2 in h k (omega arith) s) ]
 
 module _ {V : Type 0} (m : Meaning V) (laws : Laws m) where
@@ -61,26 +61,26 @@ module _ {V : Type 0} (m : Meaning V) (laws : Laws m) where
   by-data at n a h g size s l true k =
       let d = take size (drop 11 a) in
       elim (told laws n (take 6 a) (at + 11) (length d) [] d 0 (omega arith) (m .asks (take 6 a) []) refl) [
-        inr f ↦ inr (f .0, bad-data m a at n h g size s l k (f .1))
-      | inl c ↦
-          let st : List ℕ → List ℕ → Unit {0} → Type 0 = λ x y z. Unit {0} in
-          let r : Read (Unit {0}) = record { mark = tt; count = length (c .spellings) } in
-          let x : Fielded m st false (take 6 a) d r = record { known = k; spellings = c .spellings; fields = c .fields; are = c .are; bytes = c .bytes; count = refl; mark = tt; done = λ z. subst (λ i. m .asks (take 6 a) i ≡ Done) (c .bytes) (c .done) } in
-          inl (11 + size, known-led m a at n h g size s l x)
+        | inr f ↦ inr (f .0, bad-data m a at n h g size s l k (f .1))
+        | inl c ↦
+            let st : List ℕ → List ℕ → Unit {0} → Type 0 = λ x y z. Unit {0} in
+            let r : Read (Unit {0}) = record { mark = tt; count = length (c .spellings) } in
+            let x : Fielded m st false (take 6 a) d r = record { known = k; spellings = c .spellings; fields = c .fields; are = c .are; bytes = c .bytes; count = refl; mark = tt; done = λ z. subst (λ i. m .asks (take 6 a) i ≡ Done) (c .bytes) (c .done) } in
+            inl (11 + size, known-led m a at n h g size s l x)
       ]
 
   first-or : (at n : ℕ) (a : List ℕ) → 0 < length a → First at n a
   unfolding First
   first-or at n a pos =
       elim (cases-lt (length a) 11) [
-        inl l ↦ inr (fault CutOff at n 0, short pos l)
-      | inr h ↦ elim (good-or (take 6 a)) [
-          inr b ↦ inr (fault BadTag at n 0, no-tag m a at n h b)
-        | inl g ↦ elim (says-or (take 5 (drop 6 a))) [
-            inr q ↦ inr (fault BadLength (at + 6) n 0, no-length m a at n h g q)
-          | inl q ↦ elim (cases-lt (length a - 11) (q .0)) [
-              inl l ↦ inr (fault CutOff at n 0, no-end m a at n h g (q .0) (q .1) l)
-            | inr l ↦ by-data at n a h g (q .0) (q .1) l (m .knows (take 6 a)) refl
+        | inl l ↦ inr (fault CutOff at n 0, short pos l)
+        | inr h ↦ elim (good-or (take 6 a)) [
+          | inr b ↦ inr (fault BadTag at n 0, no-tag m a at n h b)
+          | inl g ↦ elim (says-or (take 5 (drop 6 a))) [
+            | inr q ↦ inr (fault BadLength (at + 6) n 0, no-length m a at n h g q)
+            | inl q ↦ elim (cases-lt (length a - 11) (q .0)) [
+              | inl l ↦ inr (fault CutOff at n 0, no-end m a at n h g (q .0) (q .1) l)
+              | inr l ↦ by-data at n a h g (q .0) (q .1) l (m .knows (take 6 a)) refl
             ]
           ]
         ]
@@ -91,26 +91,26 @@ module _ {V : Type 0} (m : Meaning V) (laws : Laws m) where
   all-or zero at n a h = inl ([], [], nil-from-length a (omega arith), no-rows)
   all-or (suc fuel) at n a h =
       elim (cases-lt 0 (length a)) [
-        inr z ↦ inl ([], [], nil-from-length a (omega arith), no-rows)
-      | inl pos ↦ elim (first-or at n a pos) [
-          inr f ↦ inr f
-        | inl x ↦
-            let e = x .1 .entry in
-            let size = x .0 in
-            let lg = x .1 .long in
-            let ln = length-drop size a in
-            elim (all-or fuel (at + (11 + length (joined (e .spellings)))) (n + 1) (drop size a) (omega arith)) [
-              inr f ↦ inr (f .0, later e (x .1 .row) (drop size a) (x .1 .is) (x .1 .whole) (f .1))
-            | inl y ↦ inl (e ∷ y .0, x .1 .row ∷ y .1, x .1 .is ∙ ap (λ i. record-of (e .tag) (joined (e .spellings)) ++ i) (y .2), more (x .1 .whole) (y .3))
-            ]
+        | inr z ↦ inl ([], [], nil-from-length a (omega arith), no-rows)
+        | inl pos ↦ elim (first-or at n a pos) [
+          | inr f ↦ inr f
+          | inl x ↦
+              let e = x .1 .entry in
+              let size = x .0 in
+              let lg = x .1 .long in
+              let ln = length-drop size a in
+              elim (all-or fuel (at + (11 + length (joined (e .spellings)))) (n + 1) (drop size a) (omega arith)) [
+                | inr f ↦ inr (f .0, later e (x .1 .row) (drop size a) (x .1 .is) (x .1 .whole) (f .1))
+                | inl y ↦ inl (e ∷ y .0, x .1 .row ∷ y .1, x .1 .is ∙ ap (λ i. record-of (e .tag) (joined (e .spellings)) ++ i) (y .2), more (x .1 .whole) (y .3))
+              ]
         ]
       ]
 
   pub either-way : (a : List ℕ) → length a ≤ 99996 → ((t : List (TableRow V)) × Reads-table m a t) ⊎ ((f : Fault) × Walk-refuses m a f)
   either-way a h =
       elim (all-or (length a) 0 0 a (omega arith)) [
-        inl y ↦ inl (y .1, (y .0, record { bytes = y .2; whole = y .3; within = h }))
-      | inr f ↦ inr f
+        | inl y ↦ inl (y .1, (y .0, record { bytes = y .2; whole = y .3; within = h }))
+        | inr f ↦ inr f
       ]
 
   pub reading-law : Reading-law m

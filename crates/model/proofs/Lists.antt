@@ -15,9 +15,10 @@ use Rattle.book.specs.declared.answer.Answer.the-variants.{Done, Field}
 use Rattle.model.specs.Records.{joined, digits5}
 
 pub split-same : (s t x y : List ℕ) → length s ≡ length t → s ++ x ≡ t ++ y → (s ≡ t) × (x ≡ y)
-split-same s t x y l e =
-    (sym (take-at s x (length s) refl) ∙ ap (take (length s)) e ∙ take-at t y (length s) (sym l),
-     sym (drop-at s x (length s) refl) ∙ ap (drop (length s)) e ∙ drop-at t y (length s) (sym l))
+split-same s t x y l e = (
+  sym (take-at s x (length s) refl) ∙ ap (take (length s)) e ∙ take-at t y (length s) (sym l),
+  sym (drop-at s x (length s) refl) ∙ ap (drop (length s)) e ∙ drop-at t y (length s) (sym l),
+)
 
 pub clash : {V : Type 0} {x : Option V} {v : V} → x ≡ Some v → x ≡ None → ⊥
 clash p q = let z : _≡_ {A = ℕ} 0 1 = cc in omega arith
@@ -60,6 +61,6 @@ same-or [] (y ∷ b) = inr (λ e. let z : _≡_ {A = ℕ} 0 1 = cc in omega arit
 same-or (x ∷ a) [] = inr (λ e. let z : _≡_ {A = ℕ} 0 1 = cc in omega arith)
 same-or (x ∷ a) (y ∷ b) =
     elim (cases-eq x y) [
-      inr h ↦ inr (λ e. h (cc))
-    | inl h ↦ elim (same-or a b) [ inl k ↦ inl (cc) | inr k ↦ inr (λ e. k (cc)) ]
+      | inr h ↦ inr (λ e. h (cc))
+      | inl h ↦ elim (same-or a b) [ inl k ↦ inl (cc) | inr k ↦ inr (λ e. k (cc)) ]
     ]

@@ -83,8 +83,8 @@ module _ {V : Type 0} {m : Meaning V} where
     push-asked k f Done e = never (room (asked k e))
     push-asked k f (Field n w) e =
         elim (cases-eq (length s) w) [
-          inl q ↦ push-read k f (e ∙ ap (Field n) (sym q)) (m .reads tag (joined ss) s) refl
-        | inr q ↦ never (fit (width k e q))
+          | inl q ↦ push-read k f (e ∙ ap (Field n) (sym q)) (m .reads tag (joined ss) s) refl
+          | inr q ↦ never (fit (width k e q))
         ]
 
   -- a draft takes one spelling more where no rule stands against it
@@ -92,8 +92,8 @@ module _ {V : Type 0} {m : Meaning V} where
   push {tag} {s} {ss} room fit good (known k f) = push-asked room fit good k f (m .asks tag (joined ss)) refl
   push {tag} {s} room fit good (bare k) =
       elim (cases-lt 0 (length s)) [
-        inl h ↦ (record { name = 0; value = raw s } ∷ [], lump k h)
-      | inr h ↦ never (fit (hollow k (omega arith)))
+        | inl h ↦ (record { name = 0; value = raw s } ∷ [], lump k h)
+        | inr h ↦ never (fit (hollow k (omega arith)))
       ]
   push room fit good (lump k h) = never (room (filled k (omega arith)))
 

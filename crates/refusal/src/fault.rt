@@ -80,8 +80,18 @@ impl Cause {
         ensures { λ r. ⌜ r ≡ layer self ⌝ }
     {
         match self {
-            Cause::TooLong | Cause::NoSuch | Cause::NoRoom | Cause::DraftOpen | Cause::NoDraft | Cause::FewEntries => Layer::Area,
-            Cause::CutOff | Cause::BadTag | Cause::BadLength | Cause::EndsEarly | Cause::PastDone | Cause::BadWidth => Layer::Record,
+            Cause::TooLong
+            | Cause::NoSuch
+            | Cause::NoRoom
+            | Cause::DraftOpen
+            | Cause::NoDraft
+            | Cause::FewEntries => Layer::Area,
+            Cause::CutOff
+            | Cause::BadTag
+            | Cause::BadLength
+            | Cause::EndsEarly
+            | Cause::PastDone
+            | Cause::BadWidth => Layer::Record,
             Cause::Unread => Layer::Field,
             Cause::BadForm => Layer::Form,
         }
@@ -93,21 +103,36 @@ impl Fault {
     pub fn new(cause: Cause, place: usize) -> Fault
         ensures { λ r. ⌜ r ≡ fault cause place 0 0 ⌝ }
     {
-        Fault { cause, place, record: 0, field: 0 }
+        Fault {
+            cause,
+            place,
+            record: 0,
+            field: 0,
+        }
     }
 
     // The same refusal, with the place and number of the field that it arose in.
     pub fn in_field(self, place: usize, field: usize) -> Fault
         ensures { λ r. ⌜ r ≡ in-field self place field ⌝ }
     {
-        Fault { cause: self.cause, place, record: self.record, field }
+        Fault {
+            cause: self.cause,
+            place,
+            record: self.record,
+            field,
+        }
     }
 
     // The same refusal, with the number of the record that it arose in.
     pub fn in_record(self, record: usize) -> Fault
         ensures { λ r. ⌜ r ≡ in-record self «record» ⌝ }
     {
-        Fault { cause: self.cause, place: self.place, record, field: self.field }
+        Fault {
+            cause: self.cause,
+            place: self.place,
+            record,
+            field: self.field,
+        }
     }
 }
 

@@ -4,7 +4,6 @@ ghost use Rattle.std.specs.Options.{Cases};
 ghost use Rattle.model.specs.Records.{GoodTag, digits5};
 ghost use Rattle.model.specs.Walks.{Says};
 ghost use Rattle.walk.specs.Heads.{Tells, Heads};
-
 use refusal::fault::Cause;
 use refusal::fault::Fault;
 
@@ -104,5 +103,8 @@ pub fn read_header<'a>(bytes: &'a [u8], at: usize) -> Result<Header<'a>, Fault>
     if rest.len() < length {
         return Err(Fault::new(Cause::CutOff, at));
     }
-    Ok(Header { tag, data: &rest[0..length] })
+    Ok(Header {
+        tag,
+        data: &rest[0..length],
+    })
 }

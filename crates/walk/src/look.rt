@@ -2,7 +2,6 @@ ghost use mathlib.Core.Path.{_≡_};
 ghost use Prim.Native.Nat.{ℕ, _+_, _<_, _≤_, min};
 ghost use lib.ListN.{length};
 ghost use Rattle.model.specs.Looks.{Drawn, Lookeds};
-
 use crate::fields::read_fields;
 use crate::header::good_tag;
 use crate::records::count_records;
@@ -22,14 +21,25 @@ pub fn limit(len: usize) -> usize
 }
 
 // The draft with k bytes of data that the tail begins with, which lies behind n records at this place.
-fn read_draft<'a, B: Book<'a>>(book: &B, tail: &[u8], k: usize, at: usize, n: usize) -> Result<Open<B::Mark>, Fault>
+fn read_draft<'a, B: Book<'a>>(
+    book: &B,
+    tail: &[u8],
+    k: usize,
+    at: usize,
+    n: usize,
+) -> Result<Open<B::Mark>, Fault>
     requires long { ⌜ 11 + k ≤ length (now tail) ⌝ }
     requires few { ⌜ at + (11 + k) ≤ 99996 ⌝ }
     ensures { λ r. ⌜ Drawn (B·Book .means (now (book .entry))) (B·Book .stands (now (book .entry))) (now (tail .entry)) k at n r ⌝ }
 {
     let tag = &tail[0..6];
     if !good_tag(tag) {
-        return Err(Fault { cause: Cause::BadTag, place: at, record: n, field: 0 });
+        return Err(Fault {
+            cause: Cause::BadTag,
+            place: at,
+            record: n,
+            field: 0,
+        });
     }
     let read = at_record(read_fields(book, tag, &tail[11..11 + k], true, at + 11), n)?;
     if let Some(r) = read {
@@ -59,5 +69,8 @@ pub fn look<'a, B: Book<'a>>(book: &B, buf: &[u8], area: Area) -> Result<Seen<B:
         return Ok(Seen { count, state });
     }
     let count = count_records(book, &buf[0..end])?;
-    Ok(Seen { count, state: Open::Shut })
+    Ok(Seen {
+        count,
+        state: Open::Shut,
+    })
 }

@@ -2,7 +2,6 @@ ghost use mathlib.Core.Path.{_≡_};
 ghost use Prim.Native.Nat.{ℕ, _+_, _<_, _≤_};
 ghost use lib.ListN.{length};
 ghost use Rattle.model.specs.Looks.{Leds, Listeds};
-
 use crate::fields::read_fields;
 use crate::header::read_header;
 use book::Book;
@@ -10,7 +9,12 @@ use refusal::fault::Fault;
 use refusal::fault::at_record;
 
 // The size of the record that the bytes begin with, which is record n at this place.
-fn first_record<'a, B: Book<'a>>(book: &B, bytes: &[u8], at: usize, n: usize) -> Result<usize, Fault>
+fn first_record<'a, B: Book<'a>>(
+    book: &B,
+    bytes: &[u8],
+    at: usize,
+    n: usize,
+) -> Result<usize, Fault>
     requires some { ⌜ 0 < length (now bytes) ⌝ }
     requires few { ⌜ at + length (now bytes) ≤ 99996 ⌝ }
     ensures { λ r. ⌜ Leds (B·Book .means (now (book .entry))) at n (now (bytes .entry)) r ⌝ }

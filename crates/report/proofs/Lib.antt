@@ -1,0 +1,4 @@
+mod Unrolling
+mod Standing
+mod Steps
+mod Ending
