@@ -36,7 +36,8 @@ pub fn open<'a, B: Book<'a>>(book: &B, buf: &[u8], len: usize) -> Result<Area, F
 pub fn count<'a, B: Book<'a>>(book: &B, buf: &[u8], area: Area) -> Result<usize, Fault>
     ensures { λ r. ⌜ Answers (B·Book .means (now (book .entry))) (now (buf .entry)) area never-refused Counted r ⌝ }
 {
-    Ok(look(book, buf, area)?.count)
+    let seen = look(book, buf, area)?;
+    Ok(seen.count)
 }
 
 // Looks at the area and lends the bytes of its finished records.

@@ -1,4 +1,4 @@
-mod Unrolling
-mod Standing
 mod Steps
+mod Fielded
+mod Standing
 mod Ending

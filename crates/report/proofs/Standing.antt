@@ -1,30 +1,29 @@
 -- What a reading call tells of an area that is known to stand for a ledger.
 use mathlib.Core.Path.{_≡_, refl, sym, _∙_, ap, subst}
-use mathlib.Core.Logic.{_⊎_, inl, inr}
-use mathlib.Core.List.{List, [], _∷_}
-use Prim.Native.Nat.{ℕ, zero, suc, _+_, _≤_, _<_, min}
+use mathlib.Core.Logic.{inl, inr}
+use mathlib.Core.List.{List}
+use Prim.Native.Nat.{ℕ, _≤_}
 use native.Mathlib.Omega.{arith}
-use lib.ListN.{length, take, getD}
-use lib.Seq.{take-all}
+use lib.ListN.{length, take, drop}
+use lib.Seq.{take-all, take-at, length-take-le}
 use Rattle.std.specs.declared.option.Option.{Option}
-use Rattle.std.specs.declared.option.Option.the-variants.{None, Some}
+use Rattle.std.specs.declared.option.Option.the-variants.{Some}
 use Rattle.std.specs.declared.result.Result.the-variants.{Ok, Err}
-use Rattle.area.specs.declared.answer.FieldInfo.{FieldInfo}
-use Rattle.area.specs.declared.answer.RecordInfo.{RecordInfo}
-use Rattle.area.specs.Reading.{Answers, never-refused, opened, Opened, Counted, record-rules, RecordTold, field-rules, FieldTold}
+use Rattle.area.specs.declared.answer.Entry.{Entry}
+use Rattle.area.specs.Listing.{list-rules, Filled, all-entries}
+use Rattle.area.specs.Reading.{Answers, never-refused, opened, Opened, Counted}
 use Rattle.area.specs.Reading.Answers.{astray, refused, answered}
 use Rattle.book.specs.Meaning.{Meaning, Laws}
 use Rattle.model.specs.declared.area.Area.{Area}
 use Rattle.model.specs.Ledgers.{Ledger, Stands, LookRefuses}
 use Rattle.model.specs.Ledgers.LookRefuses.{long, walk, badtag, draft}
-use Rattle.model.specs.Records.{Record, TableRow, AllWhole, Reads-as}
-use Rattle.model.specs.Records.AllWhole.{none, more}
-use Rattle.model.specs.Rules.{nothing, nth}
+use Rattle.model.specs.Records.{TableRow, Reads-as}
 use Rattle.model.specs.Walks.{Refuses}
 use Rattle.model.proofs.Lists.{never, clash}
 use Rattle.model.proofs.Standing.{one-ledger, never-both}
 use Rattle.refusal.specs.declared.fault.Fault.{Fault}
 use Rattle.report.specs.Listings.{most}
+use Rattle.report.proofs.Fielded.{total-few}
 
 module _ {V : Type 0} {m : Meaning V} (laws : Laws m) {buf : List ℕ} {a : Area} {L : Ledger} {t : List (TableRow V)} (s : Stands m buf a L t) where
   -- the answer is what the call gives for this ledger,
@@ -44,34 +43,27 @@ module _ {V : Type 0} {m : Meaning V} (laws : Laws m) {buf : List ℕ} {a : Area
   pub count-err : (f : Fault) → Answers {T = ℕ} m buf a never-refused Counted (Err f) → ⊥
   count-err f p = clash refl (told-err never-refused Counted f p)
 
-  pub record-ok : (n : ℕ) (x : RecordInfo) → Answers m buf a (record-rules n) (RecordTold n) (Ok x) → RecordTold n L t x
-  record-ok n x p = told-ok (record-rules n) (RecordTold n) x p
+  long-enough : {f : Fault} (size : ℕ) → length buf ≤ size → list-rules size L (Some f) → ⊥
+  long-enough size h (inl (g, w, e)) =
+      let i = w .0 in
+      let j = total-few laws (s .whole) in
+      let k = s .fits in
+      let n = length-take-le (a .end) buf (omega arith) in
+      let o = ap length (s .bytes) in
+      omega arith
+  long-enough size h (inr (q, e)) = clash refl e
 
-  few : {f : Fault} (n : ℕ) → record-rules n L (Some f) → length (L .records) ≤ n
-  few n (inl (g, w, e)) = w .0
-  few n (inr (q, e)) = never (clash refl e)
+  -- as many entries as bytes are enough,
+  pub list-err : {size : ℕ} {old new : List Entry} {f : Fault} → length buf ≤ size → Answers {T = ℕ} m buf a (list-rules size) (Filled old new) (Err f) → ⊥
+  list-err {size} {old} {new} {f} h p = long-enough size h (told-err (list-rules size) (Filled old new) f p)
 
-  pub record-err : (n : ℕ) (f : Fault) → Answers {T = RecordInfo} m buf a (record-rules n) (RecordTold n) (Err f) → length (L .records) ≤ n
-  record-err n f p = few n (told-err (record-rules n) (RecordTold n) f p)
-
-  pub field-ok : (n k : ℕ) (x : FieldInfo) → Answers m buf a (field-rules n k) (FieldTold buf n k) (Ok x) → FieldTold buf n k L t x
-  field-ok n k x p = told-ok (field-rules n k) (FieldTold buf n k) x p
-
-  short : {f : Fault} (n k : ℕ) → n < length (L .records) → field-rules n k L (Some f) → length (nth L n .spellings) ≤ k
-  short n k h (inl (g, w, e)) = let gone = w .0 in let bad : ⊥ = omega arith in never bad
-  short n k h (inr (q, inl (g, w, e))) = w .0
-  short n k h (inr (q, inr (i, e))) = never (clash refl e)
-
-  pub field-err : (n k : ℕ) (f : Fault) → n < length (L .records) → Answers {T = FieldInfo} m buf a (field-rules n k) (FieldTold buf n k) (Err f) → length (nth L n .spellings) ≤ k
-  field-err n k f h p = short n k h (told-err (field-rules n k) (FieldTold buf n k) f p)
+  -- and the first of them are all fields
+  pub list-ok : {size count : ℕ} {old new : List Entry} → Answers m buf a (list-rules size) (Filled old new) (Ok count) → take count new ≡ all-entries L t
+  list-ok {size} {count} {old} {new} p =
+      let f = told-ok (list-rules size) (Filled old new) count p in
+      ap (take count) (f .filled) ∙ take-at (all-entries L t) (drop count old) count (sym (f .counted))
 
 module _ {V : Type 0} {m : Meaning V} where
-  -- a tag of a record that the book takes has six bytes
-  pub six-at : {l : List Record} {t : List (TableRow V)} (n : ℕ) → AllWhole m l t → n < length l → length (getD l n nothing .tag) ≡ 6
-  six-at n none h = let bad : ⊥ = omega arith in never bad
-  six-at zero (more w ws) h = w .good .six
-  six-at (suc n) (more w ws) h = six-at n ws (omega arith)
-
   -- what a look refuses of bytes that are not too many, a walk of them refuses
   look-refused : (bytes : List ℕ) (f : Fault) → length bytes ≤ most → LookRefuses m bytes (opened (length bytes)) f → Refuses m 0 0 bytes f
   look-refused bytes f h (long r) = let bad : ⊥ = omega arith in never bad

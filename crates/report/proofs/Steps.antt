@@ -1,46 +1,53 @@
--- The turns and ends of the loops.
-use mathlib.Core.Path.{_≡_, refl, sym, _∙_, ap, ap₂, subst}
+-- What each step puts behind the text.
+use mathlib.Core.Path.{_≡_, refl, sym, _∙_, ap, ap₂}
 use mathlib.Core.List.{List, [], _∷_, _++_, append-assoc, append-nil}
-use Prim.Native.Nat.{ℕ, _+_, _≤_, _<_}
+use Prim.Native.Nat.{ℕ, zero, suc, _+_, _-_, _≤_, _<_}
 use native.Mathlib.Omega.{arith}
-use lib.ListN.{length, take, drop, getD}
-use Rattle.std.proofs.shelf.Lists.{at-drop-all}
-use Rattle.lines.specs.Lines.{field-line, record-line, with-line}
-use Rattle.model.specs.Records.{Record, joined, written}
+use lib.ListN.{length, drop, getD}
+use Rattle.std.proofs.shelf.Lists.{at-drop-more, at-drop-all}
+use Rattle.area.specs.declared.answer.Entry.{Entry}
+use Rattle.area.specs.Finding.{Located}
+use Rattle.lines.specs.Lines.{record-line, field-line, with-line}
+use Rattle.model.specs.Records.{Record, joined}
 use Rattle.model.specs.Rules.{nothing}
-use Rattle.report.specs.Listings.{ended, field-lines, record-lines, all-lines}
-use Rattle.report.proofs.Unrolling.{lined, next-field, next-record, field-step, record-step}
+use Rattle.model.proofs.Lists.{never}
+use Rattle.walk.specs.declared.header.Header.{Header}
+use Rattle.report.specs.Entries.{head-line, entry-lines, entries-lines}
+use Rattle.report.specs.Listings.{ended}
 
--- one more field line
-pub field-again : (text after line whole : List ℕ) (base k place width : ℕ) (ss : List (List ℕ)) → k < length ss → after ≡ with-line text line → line ≡ field-line k place width → place ≡ base + length (joined (take k ss)) → width ≡ length (getD ss k []) → text ++ field-lines k (base + length (joined (take k ss))) (drop k ss) ≡ whole → after ++ field-lines (k + 1) (base + length (joined (take (k + 1) ss))) (drop (k + 1) ss) ≡ whole
-field-again text after line whole base k place width ss h a b p w i =
-    let at = base + length (joined (take k ss)) in
-    let rest : ℕ → List ℕ = λ x. field-lines (k + 1) x (drop (k + 1) ss) in
-    let l : after ≡ with-line text (field-line k at (length (getD ss k []))) = a ∙ ap (with-line text) (b ∙ ap₂ (field-line k) p w) in
-    ap₂ _++_ l (ap rest (sym (field-step base k ss h))) ∙ next-field text whole k at ss h i
+-- a line that was added is the line with its newline
+pub lined : (text line : List ℕ) → with-line text line ≡ text ++ ended line
+lined text line = append-assoc text line (10 ∷ [])
 
--- all field lines are there
-pub fields-end : (text whole : List ℕ) (at k : ℕ) (ss : List (List ℕ)) → length ss ≤ k → text ++ field-lines k at (drop k ss) ≡ whole → text ≡ whole
-fields-end text whole at k ss h i =
-    let e : field-lines k at (drop k ss) ≡ [] = at-drop-all (field-lines k at) ss k h in
-    sym (append-nil text) ∙ ap (λ x. text ++ x) (sym e) ∙ i
+-- field 0 opens a record, and the others do not
+opening : (l : List Record) (e : Entry) (k : ℕ) → k ≤ 0 → head-line l e k ≡ ended (record-line (e .«record») (e .place - 11) (length (joined (getD l (e .«record») nothing .spellings))) (getD l (e .«record») nothing .tag))
+opening l e zero h = refl
+opening l e (suc k) h = let bad : ⊥ = omega arith in never bad
 
--- the record's line and its field lines together
-pub record-whole : (before begun text line : List ℕ) (n at place long : ℕ) (tag : List ℕ) (e : Record) → begun ≡ with-line before line → line ≡ record-line n place long tag → place ≡ at → long ≡ length (joined (e .spellings)) → tag ≡ e .tag → text ≡ begun ++ field-lines 0 (at + 11) (e .spellings) → text ≡ before ++ record-lines n at e
-record-whole before begun text line n at place long tag e a b p q r i =
-    let known : line ≡ record-line n at (length (joined (e .spellings))) (e .tag) =
-    b ∙ ap (λ x. record-line n x long tag) p ∙ ap (λ x. record-line n at x tag) q ∙ ap (record-line n at (length (joined (e .spellings)))) r in
-    let front : begun ≡ before ++ ended (record-line n at (length (joined (e .spellings))) (e .tag)) = a ∙ lined before line ∙ ap (λ x. before ++ ended x) known in
-    i ∙ ap (λ x. x ++ field-lines 0 (at + 11) (e .spellings)) front ∙ append-assoc before (ended (record-line n at (length (joined (e .spellings))) (e .tag))) (field-lines 0 (at + 11) (e .spellings))
+pub no-head : (l : List Record) (e : Entry) (k : ℕ) → 0 < k → head-line l e k ≡ []
+no-head l e zero h = let bad : ⊥ = omega arith in never bad
+no-head l e (suc k) h = refl
 
--- one more record
-pub record-again : (text after whole : List ℕ) (n : ℕ) (l : List Record) → n < length l → length (getD l n nothing .tag) ≡ 6 → after ≡ text ++ record-lines n (length (written (take n l))) (getD l n nothing) → text ++ all-lines n (length (written (take n l))) (drop n l) ≡ whole → after ++ all-lines (n + 1) (length (written (take (n + 1) l))) (drop (n + 1) l) ≡ whole
-record-again text after whole n l h six a i =
-    let rest : ℕ → List ℕ = λ x. all-lines (n + 1) x (drop (n + 1) l) in
-    ap₂ _++_ a (ap rest (sym (record-step n l h six))) ∙ next-record text whole n (length (written (take n l))) l h i
+-- the record's line
+pub head-put : (l : List Record) (e : Entry) (h : Header) (before after line : List ℕ) → e .field ≤ 0 → Located l (e .«record») (e .place - 11) h → after ≡ with-line before line → line ≡ record-line (e .«record») (e .place - 11) (length (h .data .now)) (h .tag) → after ≡ before ++ head-line l e (e .field)
+head-put l e h before after line z f a b =
+    let known = b ∙ ap₂ (record-line (e .«record») (e .place - 11)) (ap length (f .data-is)) (f .tag-is) in
+    a ∙ lined before line ∙ ap (λ x. before ++ x) (ap ended known ∙ sym (opening l e (e .field) z))
 
--- all records are there
-pub records-end : (text whole : List ℕ) (at n : ℕ) (l : List Record) → length l ≤ n → text ++ all-lines n at (drop n l) ≡ whole → text ≡ whole
-records-end text whole at n l h i =
-    let e : all-lines n at (drop n l) ≡ [] = at-drop-all (all-lines n at) l n h in
-    sym (append-nil text) ∙ ap (λ x. text ++ x) (sym e) ∙ i
+-- the field's line
+pub field-put : (l : List Record) (e : Entry) (before between after line : List ℕ) → between ≡ before ++ head-line l e (e .field) → after ≡ with-line between line → line ≡ field-line (e .field) (e .place) (e .width) → after ≡ before ++ entry-lines l e
+field-put l e before between after line h a b =
+    a ∙ lined between line ∙ ap₂ (λ x y. x ++ ended y) h b ∙ append-assoc before (head-line l e (e .field)) (ended (field-line (e .field) (e .place) (e .width)))
+
+-- one more entry
+pub entry-again : (l : List Record) (es : List Entry) (i : ℕ) (d : Entry) (text after whole : List ℕ) → i < length es → after ≡ text ++ entry-lines l (getD es i d) → text ++ entries-lines l (drop i es) ≡ whole → after ++ entries-lines l (drop (i + 1) es) ≡ whole
+entry-again l es i d text after whole h a inv =
+    let rest = entries-lines l (drop (i + 1) es) in
+    let e : entries-lines l (drop i es) ≡ entry-lines l (getD es i d) ++ rest = at-drop-more (entries-lines l) es i d h in
+    ap (λ x. x ++ rest) a ∙ append-assoc text (entry-lines l (getD es i d)) rest ∙ ap (λ x. text ++ x) (sym e) ∙ inv
+
+-- all entries are there
+pub entries-end : (l : List Record) (es : List Entry) (i : ℕ) (text whole : List ℕ) → length es ≤ i → text ++ entries-lines l (drop i es) ≡ whole → text ≡ whole
+entries-end l es i text whole h inv =
+    let e : entries-lines l (drop i es) ≡ [] = at-drop-all (entries-lines l) es i h in
+    sym (append-nil text) ∙ ap (λ x. text ++ x) (sym e) ∙ inv
