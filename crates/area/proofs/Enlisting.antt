@@ -1,5 +1,5 @@
 -- Filling entries, field by field and record by record.
-use Rattle.std.proofs.Common.{◌≡◌, ℕ, zero, suc, ◌+◌, ◌-◌, ◌<◌, ◌≤◌, List, [], ◌∷◌, ◌++◌, map, length, get_or, take, drop, set, sym, refl, ap, ◌∙◌, subst, ap₂, append_assoc, append-nil, add_assoc, add-one, arith, length-append, length-drop, length-set, take-append-drop, length-take-le, drop-drop, take_at, drop-set-lt, drop_at}
+use Rattle.std.proofs.Common.{◌≡◌, ℕ, zero, suc, ◌+◌, ◌<◌, ◌≤◌, List, [], ◌∷◌, ◌++◌, length, get_or, take, drop, set, sym, refl, ap, ◌∙◌, subst, ap₂, append_assoc, append-nil, arith, length-append, length-set, take-append-drop, drop-drop, drop-set-lt}
 use Rattle.std.proofs.lemmas.List.{take_more, take_more_set, take_all}
 use Rattle.book.specs.Meaning.{Meaning, Laws}
 use Rattle.model.specs.Records.{Record, TableField, Fields, Begun, joined}
@@ -9,7 +9,7 @@ use Rattle.model.specs.Rules.{nothing}
 use Rattle.model.proofs.Lists.{never}
 use Rattle.area.specs.declared.answer.Entry.{Entry}
 use Rattle.area.specs.declared.part.Part.{Part}
-use Rattle.area.specs.Finding.{Holds, Parted, names}
+use Rattle.area.specs.Finding.{Parted, names}
 use Rattle.area.specs.Listing.{entry, entries_of, field_total}
 
 abbrev pub nowhere : Entry

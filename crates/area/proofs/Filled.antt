@@ -1,16 +1,16 @@
 -- The entries of all records, record by record.
-use Rattle.std.proofs.Common.{◌≡◌, ℕ, zero, suc, ◌+◌, ◌-◌, ◌<◌, ◌≤◌, List, [], ◌∷◌, ◌++◌, map, length, get_or, take, drop, sym, refl, ap, ◌∙◌, subst, ap₂, append_assoc, append-nil, add-one, arith, length-append, length-drop, drop-drop, take_at, drop_at}
+use Rattle.std.proofs.Common.{◌≡◌, ℕ, zero, suc, ◌+◌, ◌<◌, ◌≤◌, List, [], ◌∷◌, ◌++◌, map, length, get_or, take, drop, sym, refl, ap, ◌∙◌, ap₂, append_assoc, append-nil, add-one, arith, length-append, length-drop, drop-drop, take_at, drop_at}
 use Rattle.std.proofs.lemmas.List.{take_all}
 use Rattle.book.specs.Meaning.{Meaning}
-use Rattle.model.specs.Records.{Record, TableRow, Whole, AllWhole, joined, record_of, written}
+use Rattle.model.specs.Records.{Record, TableRow, AllWhole, joined, record_of, written}
 use Rattle.model.specs.Records.AllWhole.{none as no_rows, more}
 use Rattle.model.specs.Rules.{nothing}
 use Rattle.model.proofs.Lists.{never}
 use Rattle.model.proofs.Whole.{record_length, all_take}
 use Rattle.area.specs.declared.answer.Entry.{Entry}
 use Rattle.area.specs.Finding.{names}
-use Rattle.area.specs.Listing.{entries_of, listing, field_total, FilledAll, Tiling}
-use Rattle.area.proofs.Enlisting.{even, entries_length, total_more, total_append}
+use Rattle.area.specs.Listing.{entries_of, listing, field_total, FilledAll}
+use Rattle.area.proofs.Enlisting.{even, entries_length, total_more}
 
 abbrev pub rows : {V : Type 0} → List (TableRow V) → List (List ℕ)
 rows t = map (λ r. names r.fields) t

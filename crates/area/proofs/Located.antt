@@ -1,5 +1,5 @@
 -- Walking over records that are known to be sound.
-use Rattle.std.proofs.Common.{◌≡◌, ℕ, zero, suc, ◌+◌, ◌-◌, ◌<◌, ◌≤◌, ◌⊎◌, List, [], ◌∷◌, ◌++◌, length, get_or, take, drop, sym, refl, ap, ◌∙◌, subst, inl, inr, append_assoc, arith, length-append, length-drop, drop-drop, take_at, drop_at}
+use Rattle.std.proofs.Common.{◌≡◌, ℕ, zero, suc, ◌+◌, ◌<◌, ◌≤◌, List, [], ◌∷◌, ◌++◌, length, get_or, take, drop, sym, refl, ap, ◌∙◌, subst, inl, inr, append_assoc, arith, length-append, length-drop, drop-drop, take_at, drop_at}
 use Rattle.std.proofs.lemmas.Bool.{cases_lt}
 use Rattle.std.proofs.lemmas.List.{take_more, drop_all, take_all}
 use Rattle.refusal.specs.declared.fault.Fault.{Fault}
@@ -12,7 +12,7 @@ use Rattle.model.proofs.Placing.{cut_at}
 use Rattle.walk.specs.declared.header.Header.{Header}
 use Rattle.walk.specs.Heads.{Headed, Headless}
 use Rattle.walk.specs.Heads.Headless.{short, tag, digits, end}
-use Rattle.area.specs.Finding.{Sound, Located, Found}
+use Rattle.area.specs.Finding.{Sound, Located}
 
 pub sound_at : (l : List Record) (n : ℕ) → n < length l → Sound l → GoodTag (get_or l n nothing).tag × (1 ≤ length (joined (get_or l n nothing).spellings)) × (length (joined (get_or l n nothing).spellings) ≤ 99985)
 sound_at [] n h s = let bad : ⊥ = omega arith in never bad

@@ -1,9 +1,8 @@
 -- Walking over the fields of a record that is known to be whole.
-use Rattle.std.proofs.Common.{◌≡◌, ℕ, zero, suc, ◌+◌, ◌-◌, ◌<◌, ◌≤◌, Bool, true, false, ◌⊎◌, List, [], ◌∷◌, ◌++◌, map, length, get_or, take, drop, Some, None, Ok, Err, Option, sym, refl, ap, ◌∙◌, subst, inl, inr, append_assoc, append-nil, arith, length-append, length-drop, take-append-drop, take_at, take-add, drop_at}
+use Rattle.std.proofs.Common.{◌≡◌, ℕ, zero, suc, ◌+◌, ◌-◌, ◌<◌, ◌≤◌, true, false, List, [], ◌∷◌, ◌++◌, length, get_or, take, drop, Some, None, Ok, Err, Option, sym, refl, ap, ◌∙◌, subst, inl, inr, append_assoc, append-nil, arith, length-append, take-append-drop, take_at, drop_at}
 use Rattle.std.proofs.lemmas.Bool.{cases_lt}
 use Rattle.std.proofs.lemmas.List.{take_more, drop_more, take_all}
 use Rattle.book.specs.Meaning.{Meaning}
-use Rattle.book.specs.declared.answer.Answer.{Answer}
 use Rattle.book.specs.declared.answer.Answer.TheVariants.{Done, Field}
 use Rattle.model.specs.Records.{TableField, Fields, Begun, Full, joined}
 use Rattle.model.specs.Records.Fields.{none, next}
@@ -17,8 +16,7 @@ use Rattle.model.proofs.Unique.{begun_one}
 use Rattle.model.proofs.Apart.{record_inside}
 use Rattle.model.specs.Walks.{Fails}
 use Rattle.model.proofs.Lists.{never, both, halt, clash, same_width, same_name, joined_append, joined_push}
-use Rattle.area.specs.declared.part.Part.{Part}
-use Rattle.area.specs.Finding.{Holds, Parted, Fielded, names}
+use Rattle.area.specs.Finding.{Holds, Parted, names}
 
 -- spellings before k, spelling k, spellings behind it
 pub joined_cut : (ss : List (List ℕ)) (k : ℕ) → k < length ss → joined ss ≡ joined (take k ss) ++ (get_or ss k [] ++ joined (drop (k + 1) ss))

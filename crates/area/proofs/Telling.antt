@@ -1,16 +1,15 @@
 -- From a look that found a ledger to what the reading calls say of it.
-use Rattle.std.proofs.Common.{◌≡◌, ℕ, zero, suc, ◌+◌, ◌-◌, ◌<◌, ◌≤◌, min, ◌⊎◌, List, [], ◌∷◌, ◌++◌, map, length, get_or, take, drop, Some, None, Option, sym, refl, ap, ◌∙◌, subst, ap₂, inl, inr, append_assoc, arith, length-append, take-append-drop, length-take-le, take_at, drop_at}
+use Rattle.std.proofs.Common.{◌≡◌, ℕ, zero, suc, ◌+◌, ◌-◌, ◌<◌, ◌≤◌, List, [], ◌++◌, map, length, get_or, take, drop, Some, None, sym, refl, ap, ◌∙◌, subst, ap₂, inl, inr, append_assoc, arith, length-append, take-append-drop, length-take-le, take_at, drop_at}
 use Rattle.book.specs.Meaning.{Meaning, Laws}
 use Rattle.refusal.specs.declared.fault.Cause.TheVariants.{NoSuch}
-use Rattle.refusal.specs.declared.fault.Fault.{Fault}
 use Rattle.refusal.specs.Faults.{fault}
 use Rattle.model.specs.declared.area.Area.{Area}
 use Rattle.model.specs.declared.seen.Seen.{Seen}
-use Rattle.model.specs.Records.{Record, TableRow, TableField, GoodTag, Whole, AllWhole, joined, digits5, header, record_of, written}
+use Rattle.model.specs.Records.{Record, TableRow, TableField, AllWhole, joined, digits5, header, record_of, written}
 use Rattle.model.specs.Records.AllWhole.{none as no_rows, more}
-use Rattle.model.specs.Ledgers.{Ledger, Stands, reach, beyond, room}
+use Rattle.model.specs.Ledgers.{Ledger}
 use Rattle.model.specs.Looks.{Looked}
-use Rattle.model.specs.Rules.{Refusal, nothing}
+use Rattle.model.specs.Rules.{nothing}
 use Rattle.model.proofs.Lists.{never}
 use Rattle.model.proofs.Apart.{some_data}
 use Rattle.model.proofs.Placing.{cut_at}

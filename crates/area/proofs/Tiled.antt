@@ -1,10 +1,10 @@
 -- Entries that lie one behind another.
-use Rattle.std.proofs.Common.{◌≡◌, ℕ, zero, suc, ◌+◌, ◌-◌, ◌<◌, ◌≤◌, List, [], ◌∷◌, ◌++◌, length, get_or, take, drop, sym, refl, ap, ◌∙◌, subst, arith, length-append}
+use Rattle.std.proofs.Common.{◌≡◌, ℕ, ◌+◌, ◌-◌, ◌<◌, ◌≤◌, List, [], ◌∷◌, ◌++◌, length, get_or, drop, refl, subst, arith, length-append}
 use Rattle.std.proofs.lemmas.List.{drop_more, drop_all}
 use Rattle.model.specs.Records.{joined}
 use Rattle.model.proofs.Lists.{never}
 use Rattle.area.specs.declared.answer.Entry.{Entry}
-use Rattle.area.specs.Listing.{entry, entries_of, Tiling}
+use Rattle.area.specs.Listing.{entries_of, Tiling}
 use Rattle.area.proofs.Enlisting.{nowhere}
 
 -- what the rest does from here, the whole does from the start

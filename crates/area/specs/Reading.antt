@@ -1,11 +1,11 @@
 -- What the reading calls answer.
-use Rattle.std.specs.Prelude.{◌≡◌, ℕ, ◌+◌, ◌<◌, ◌≤◌, Bool, true, false, List, [], ◌∷◌, ◌++◌, map, length, take, drop, Some, None, Ok, Err, Option, Result, slice_index, slice_index_or}
+use Rattle.std.specs.Prelude.{◌≡◌, ℕ, ◌≤◌, List, [], ◌∷◌, map, length, take, drop, Some, None, Ok, Err, Option, Result, slice_index, slice_index_or}
 use Rattle.book.specs.Meaning.{Meaning}
-use Rattle.refusal.specs.declared.fault.Cause.TheVariants.{NoSuch, FewEntries}
+use Rattle.refusal.specs.declared.fault.Cause.TheVariants.{NoSuch}
 use Rattle.refusal.specs.declared.fault.Fault.{Fault}
 use Rattle.refusal.specs.Faults.{fault}
 use Rattle.model.specs.declared.area.Area.{Area}
-use Rattle.model.specs.Records.{Record, TableRow, joined, written}
+use Rattle.model.specs.Records.{TableRow, joined}
 use Rattle.model.specs.Ledgers.{Ledger, Stands, LookRefuses}
 use Rattle.model.specs.Rules.{Rule, gives, Refusal, nth, begins, field_at}
 use Rattle.area.specs.declared.answer.RecordInfo.{RecordInfo}

@@ -1,7 +1,7 @@
 -- The book that knows no tag.
-use Rattle.std.specs.Prelude.{◌≡◌, ℕ, Bool, true, false, List, Some, None}
+use Rattle.std.specs.Prelude.{◌≡◌, ℕ, false, List, None}
 use Rattle.std.proofs.Common.{arith}
-use Rattle.book.specs.declared.answer.Answer.TheVariants.{Done, Field}
+use Rattle.book.specs.declared.answer.Answer.TheVariants.{Done}
 use Rattle.book.specs.Meaning.{Meaning, Laws}
 
 abbrev pub nothing : Meaning (Unit {0})

@@ -1,11 +1,11 @@
 -- How a book answers by a mark: as by the tag and the bytes passed.
-use Rattle.std.specs.Prelude.{◌≡◌, ℕ, Bool, true, false, List, [], ◌++◌, length, Some, None, Ok, Err, Option, Result}
+use Rattle.std.specs.Prelude.{◌≡◌, ℕ, true, false, List, [], ◌++◌, length, Some, None, Ok, Err, Option, Result}
 use Rattle.refusal.specs.declared.fault.Fault.{Fault}
 use Rattle.refusal.specs.Faults.{unread}
 use Rattle.kind.specs.Kinds.{Told, Spelled}
 use Rattle.book.specs.Meaning.{Meaning}
 use Rattle.book.specs.declared.answer.Answer.{Answer}
-use Rattle.book.specs.declared.answer.Answer.TheVariants.{Done, Field}
+use Rattle.book.specs.declared.answer.Answer.TheVariants.{Field}
 
 module _ {V M : Type 0} (m : Meaning V) (stands : List ℕ → List ℕ → M → Type 0) where
   abbrev pub Started : List ℕ → Option M → Type 0

@@ -1,3 +1,5 @@
+#![tactic(auto)]
+
 ghost use Rattle.std.specs.Prelude.{◌≡◌, ℕ, List};
 ghost use Rattle.book.specs.Meaning.{Meaning, Laws};
 ghost use Rattle.book.specs.Marks.{Started, Asked, Passed, Valued, Spelling};

@@ -1,3 +1,5 @@
+#![tactic(auto)]
+
 pub mod letter;
 pub mod mission;
 pub mod missions;

@@ -1,5 +1,5 @@
 -- Which days and times of day there are.
-use Rattle.std.specs.Prelude.{ℕ, Bool, true, false, ◌&&◌, nat_le}
+use Rattle.std.specs.Prelude.{ℕ, Bool, ◌&&◌, nat_le}
 
 -- a year of four digits, a month, and a day of it: 1 to 31 in any month
 unfoldable pub is_day : ℕ → ℕ → ℕ → Bool

@@ -1,6 +1,6 @@
 -- A second of a day, in 14 digits.
 use Rattle.std.specs.Prelude.{◌≡◌, ℕ, Bool, true, false, List, Some, None, Option, refl}
-use Rattle.std.proofs.Common.{sym, ◌∙◌, ap, arith}
+use Rattle.std.proofs.Common.{ap, arith}
 use Rattle.std.proofs.Math.Bool.{Bool-set}
 use Rattle.kind.specs.Kinds.{Laws}
 use Rattle.kinds.specs.declared.layers.Both.{Both}

@@ -1,3 +1,5 @@
+#![tactic(auto)]
+
 pub mod calendar;
 pub mod calendar_dates;
 mod clock;

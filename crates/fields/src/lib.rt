@@ -1,3 +1,5 @@
+#![tactic(auto)]
+
 pub mod accuracies;
 pub mod accuracy;
 pub mod date_stamps;

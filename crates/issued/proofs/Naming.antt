@@ -1,12 +1,12 @@
 -- Names that stand in order are found by their numbers.
-use Rattle.std.proofs.Common.{◌≡◌, ℕ, zero, suc, ◌<◌, ◌≤◌, List, [], ◌∷◌, length, get_or, Some, None, refl, ap, arith, Bor, MutBor}
+use Rattle.std.proofs.Common.{◌≡◌, ℕ, zero, suc, ◌<◌, ◌≤◌, List, [], ◌∷◌, length, get_or, Some, None, refl, ap, arith, Bor}
 use Rattle.issued.specs.Published.{Field}
 use Rattle.issued.specs.Widths.{named, names, texts}
 
 clash : {P : Type 0} → ◌≡◌ {A = ℕ} 0 1 → P
 clash z = let bad : ⊥ = omega arith in elim bad [ ]
 
-pub name_at : (fs : List Field) (ts : List (MutBor (List ℕ))) → texts ts ≡ names fs → (n : ℕ) (d : MutBor (List ℕ)) → n < length ts → named fs n ≡ Some (get_or ts n d).now
+pub name_at : (fs : List Field) (ts : List (Bor (List ℕ))) → texts ts ≡ names fs → (n : ℕ) (d : Bor (List ℕ)) → n < length ts → named fs n ≡ Some (get_or ts n d).now
 name_at [] [] e n d l = let bad : ⊥ = omega arith in elim bad [ ]
 name_at [] (t ∷ ts) e n d l = clash (cc)
 name_at (f ∷ fs) [] e n d l = clash (cc)

@@ -1,3 +1,5 @@
+#![tactic(auto)]
+
 ghost use Rattle.std.specs.Prelude.{◌≡◌, ℕ, List, Option};
 ghost use Rattle.kind.specs.Kinds.{Laws, Told, Checked, Spelled, TwoLaws};
 

@@ -1,5 +1,5 @@
 -- Checking, reading and spelling values with names of their own.
-use Rattle.std.proofs.Common.{◌≡◌, ℕ, List, length, Some, None, Ok, Err, Option, Result, sym, refl, ap, ◌∙◌}
+use Rattle.std.proofs.Common.{◌≡◌, ℕ, List, Some, Ok, Err, Option, Result, sym, ap, ◌∙◌}
 use Rattle.refusal.specs.declared.fault.Fault.{Fault}
 use Rattle.kind.specs.Kinds.{Checked, Spelled}
 use Rattle.kinds.specs.declared.layers.Either.{Either}

@@ -1,5 +1,5 @@
 -- Checking, reading and spelling one kind behind another.
-use Rattle.std.proofs.Common.{◌≡◌, ℕ, ◌+◌, ◌-◌, ◌<◌, ◌≤◌, leb, ◌⊎◌, List, ◌++◌, length, take, drop, Some, None, Ok, Err, Option, Result, refl, ap, ◌∙◌, inl, inr, arith, le-leb, leb-true}
+use Rattle.std.proofs.Common.{◌≡◌, ℕ, ◌+◌, ◌<◌, ◌≤◌, leb, ◌⊎◌, List, ◌++◌, length, take, drop, Some, None, Ok, Err, Option, Result, refl, ap, ◌∙◌, inl, inr, arith, le-leb, leb-true}
 use Rattle.std.proofs.lemmas.List.{take_at, drop_at}
 use Rattle.refusal.specs.declared.fault.Fault.{Fault}
 use Rattle.kinds.specs.declared.layers.Both.{Both}

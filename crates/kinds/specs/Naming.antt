@@ -1,5 +1,5 @@
 -- Values with names of their own, one to one with those of a kind below.
-use Rattle.std.specs.Prelude.{◌≡◌, ℕ, List, length, Some, None, Option, refl}
+use Rattle.std.specs.Prelude.{◌≡◌, ℕ, List, Some, None, Option, refl}
 use Rattle.std.proofs.Common.{sym, ◌∙◌, ap}
 use Rattle.kind.specs.Kinds.{Laws}
 use Rattle.kinds.specs.Bytes.{never, some_is}

@@ -1,3 +1,5 @@
+#![tactic(auto)]
+
 // The lines of a listing. Each is text of its own, with no newline in it.
 ghost use Rattle.std.specs.Prelude.{◌≡◌, map, IfOk, string_bytes, OnOk};
 ghost use Rattle.lines.specs.Lines.{shown, three, bracketed, with_line, record_line, field_line, end_line, layer_number, refusal_line};

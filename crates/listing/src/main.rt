@@ -1,3 +1,5 @@
+#![tactic(auto)]
+
 // Reads an area from standard input and prints its listing under the empty book.
 use book::empty::EmptyBook;
 use report::{LIMIT, listed};

@@ -1,3 +1,5 @@
+#![tactic(auto)]
+
 // Prints the listings of the areas in data/ and of two made here, each under its name.
 use issued::book::IssuedBook;
 use report::{LIMIT, listed};

@@ -1,18 +1,18 @@
 -- What reads is not refused.
-use Rattle.std.proofs.Common.{◌≡◌, ℕ, ◌+◌, ◌<◌, ◌≤◌, Bool, true, false, List, [], ◌∷◌, ◌++◌, length, take, drop, Some, None, Option, sym, refl, ap, ◌∙◌, subst, ap₂, append_assoc, append-nil, arith, length-append}
+use Rattle.std.proofs.Common.{◌≡◌, ℕ, ◌+◌, ◌<◌, ◌≤◌, Bool, true, false, List, [], ◌++◌, length, None, sym, refl, ap, ◌∙◌, subst, append_assoc, append-nil, arith, length-append}
 use Rattle.book.specs.Meaning.{Meaning, Laws}
 use Rattle.book.specs.declared.answer.Answer.TheVariants.{Done, Field}
 use Rattle.refusal.specs.declared.fault.Fault.{Fault}
-use Rattle.model.specs.Records.{Record, TableField, TableRow, Value, GoodTag, Fields, Begun, Full, Whole, AllWhole, ReadsAs, joined, digits5, header, record_of, written}
+use Rattle.model.specs.Records.{Record, TableField, TableRow, GoodTag, Fields, Begun, Full, AllWhole, joined, digits5, record_of, written}
 use Rattle.model.specs.Records.Fields.{none, next}
 use Rattle.model.specs.Records.Begun.{known, bare, lump}
 use Rattle.model.specs.Records.Full.{asked, filled}
 use Rattle.model.specs.Records.AllWhole.{none as no_rows, more}
-use Rattle.model.specs.Walks.{Fails, Refuses, Says}
+use Rattle.model.specs.Walks.{Fails, Refuses}
 use Rattle.model.specs.Walks.Fails.{ends, unread, past, later}
 use Rattle.model.specs.Walks.Refuses.{short, badtag, badlength, cutoff, inside, later as after}
-use Rattle.model.proofs.Lists.{split_same, clash, halt, same_width, same_name, both, never, same_number}
-use Rattle.model.proofs.Unique.{front, begun_one}
+use Rattle.model.proofs.Lists.{split_same, clash, halt, same_width, both, never, same_number}
+use Rattle.model.proofs.Unique.{front}
 
 longest : (s x : List ℕ) → 1 ≤ length s → [] ≡ s ++ x → ⊥
 longest s x h e = let l = ap length e ∙ length-append s x in omega arith

@@ -1,19 +1,19 @@
 -- A tag is good or not; data reads or is refused.
-use Rattle.std.proofs.Common.{◌≡◌, ℕ, zero, suc, ◌+◌, ◌-◌, ◌<◌, ◌≤◌, Bool, true, false, ◌⊎◌, List, [], ◌∷◌, ◌++◌, map, length, get_or, take, drop, Some, None, Option, sym, refl, ap, ◌∙◌, subst, ap₂, inl, inr, append_assoc, append-nil, arith, length-append, length-drop, take-append-drop, length-take-le, below_more}
+use Rattle.std.proofs.Common.{◌≡◌, ℕ, zero, suc, ◌+◌, ◌<◌, ◌≤◌, true, false, ◌⊎◌, List, [], ◌∷◌, ◌++◌, length, get_or, take, drop, Some, None, Option, sym, refl, ap, ◌∙◌, subst, inl, inr, append_assoc, append-nil, arith, length-drop, take-append-drop, length-take-le}
 use Rattle.std.proofs.lemmas.Bool.{cases_eq, cases_lt}
 use Rattle.std.proofs.lemmas.List.{nil_from_length}
 use Rattle.book.specs.Meaning.{Meaning, Laws}
 use Rattle.book.specs.declared.answer.Answer.{Answer}
 use Rattle.book.specs.declared.answer.Answer.TheVariants.{Done, Field}
 use Rattle.refusal.specs.declared.fault.Fault.{Fault}
-use Rattle.refusal.specs.declared.fault.Cause.TheVariants.{CutOff, BadTag, BadLength, Unread, EndsEarly, PastDone}
+use Rattle.refusal.specs.declared.fault.Cause.TheVariants.{Unread, EndsEarly, PastDone}
 use Rattle.refusal.specs.Faults.{fault}
-use Rattle.model.specs.Records.{Record, TableField, TableRow, Value, GoodTag, Fields, joined}
-use Rattle.model.specs.Records.Value.{read, raw}
+use Rattle.model.specs.Records.{TableField, GoodTag, Fields, joined}
+use Rattle.model.specs.Records.Value.{read}
 use Rattle.model.specs.Records.Fields.{none, next}
 use Rattle.model.specs.Walks.{Fails}
 use Rattle.model.specs.Walks.Fails.{ends, unread, past, later}
-use Rattle.model.proofs.Lists.{never, clash, halt}
+use Rattle.model.proofs.Lists.{never}
 
 abbrev Or : Type 0 → Type 0
 Or P = P ⊎ (P → ⊥)

@@ -1,24 +1,24 @@
 -- All bytes read as a table, or are refused.
-use Rattle.std.proofs.Common.{◌≡◌, ℕ, zero, suc, ◌+◌, ◌-◌, ◌<◌, ◌≤◌, Bool, true, false, ◌⊎◌, List, [], ◌∷◌, ◌++◌, length, take, drop, Some, None, Option, sym, refl, ap, ◌∙◌, subst, ap₂, inl, inr, append_assoc, append-nil, arith, length-append, length-drop}
+use Rattle.std.proofs.Common.{◌≡◌, ℕ, zero, suc, ◌+◌, ◌-◌, ◌<◌, ◌≤◌, Bool, true, false, ◌⊎◌, List, [], ◌∷◌, ◌++◌, length, take, drop, sym, refl, ap, ◌∙◌, subst, inl, inr, arith, length-drop}
 use Rattle.std.proofs.lemmas.Bool.{cases_lt}
 use Rattle.std.proofs.lemmas.List.{nil_from_length}
 use Rattle.book.specs.Meaning.{Meaning, Laws}
-use Rattle.book.specs.declared.answer.Answer.TheVariants.{Done, Field}
+use Rattle.book.specs.declared.answer.Answer.TheVariants.{Done}
 use Rattle.refusal.specs.declared.fault.Fault.{Fault}
 use Rattle.refusal.specs.declared.fault.Cause.TheVariants.{CutOff, BadTag, BadLength}
 use Rattle.model.specs.declared.seen.Read.{Read}
 use Rattle.refusal.specs.Faults.{fault}
-use Rattle.model.specs.Records.{Record, TableRow, GoodTag, AllWhole, ReadsAs, joined, digits5, record_of, written}
+use Rattle.model.specs.Records.{Record, TableRow, GoodTag, AllWhole, joined, digits5, record_of, written}
 use Rattle.model.specs.Records.AllWhole.{none as no_rows, more}
-use Rattle.model.specs.Walks.{Fails, Refuses, Says}
+use Rattle.model.specs.Walks.{Refuses, Says}
 use Rattle.model.specs.Walks.Refuses.{short, later}
 use Rattle.model.specs.Looks.{Fielded, Led}
 use Rattle.model.specs.Laws.{ReadingLaw, ReadsTable, WalkRefuses}
-use Rattle.model.proofs.Lists.{never, same_or}
+use Rattle.model.proofs.Lists.{same_or}
 use Rattle.model.proofs.Unique.{one_list, same_bytes}
 use Rattle.model.proofs.Apart.{refuses_apart}
 use Rattle.model.proofs.OneFault.{one_refuse}
-use Rattle.model.proofs.Decide.{good_or, told, Cut}
+use Rattle.model.proofs.Decide.{good_or, told}
 use Rattle.model.proofs.Leading.{no_tag, no_length, no_end, bad_data, known_led, unknown_led}
 
 some_below : (P : ℕ → Type 0) → ((i : ℕ) → P i ⊎ (P i → ⊥)) → (n : ℕ) → ((i : ℕ) × P i) ⊎ ((i : ℕ) → i < n → P i → ⊥)

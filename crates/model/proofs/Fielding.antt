@@ -1,11 +1,10 @@
 -- The state of a reading of a record's data, and what each turn does to it.
-use Rattle.std.proofs.Common.{◌≡◌, ℕ, ◌+◌, ◌-◌, ◌<◌, ◌≤◌, Bool, true, false, List, [], ◌∷◌, ◌++◌, length, take, drop, Some, None, Option, sym, refl, ap, ◌∙◌, subst, append_assoc, append-nil, arith, length-drop, take-append-drop, length-take-le, take_all, drop-drop, take-add}
-use Rattle.std.proofs.lemmas.List.{drop_all, length_push}
+use Rattle.std.proofs.Common.{◌≡◌, ℕ, ◌+◌, ◌-◌, ◌<◌, ◌≤◌, Bool, true, false, List, [], ◌∷◌, ◌++◌, length, take, drop, Some, None, sym, refl, ap, ◌∙◌, subst, arith, length-drop, take-append-drop, length-take-le, take_all, drop-drop, take-add}
+use Rattle.std.proofs.lemmas.List.{length_push}
 use Rattle.book.specs.Meaning.{Meaning}
 use Rattle.book.specs.declared.answer.Answer.TheVariants.{Done, Field}
 use Rattle.refusal.specs.declared.fault.Fault.{Fault}
 use Rattle.refusal.specs.declared.fault.Cause.TheVariants.{Unread, EndsEarly, PastDone}
-use Rattle.model.specs.declared.seen.Read.{Read}
 use Rattle.refusal.specs.Faults.{fault}
 use Rattle.model.specs.Records.{TableField, Fields, joined}
 use Rattle.model.specs.Records.Value.{read}
@@ -13,7 +12,7 @@ use Rattle.model.specs.Records.Fields.{none}
 use Rattle.model.specs.Walks.{Fails}
 use Rattle.model.specs.Walks.Fails.{ends, unread, past, later}
 use Rattle.model.specs.Looks.{Fielded}
-use Rattle.model.proofs.Lists.{joined_push, never}
+use Rattle.model.proofs.Lists.{joined_push}
 use Rattle.model.proofs.Whole.{fields_push}
 
 -- the first i bytes of d are k fields, and what the rest gives, the whole gives

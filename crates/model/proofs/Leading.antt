@@ -1,21 +1,20 @@
 -- The first record of some bytes, and records one after another.
-use Rattle.std.proofs.Common.{◌≡◌, ℕ, ◌+◌, ◌-◌, ◌<◌, ◌≤◌, Bool, true, false, ◌⊎◌, List, [], ◌∷◌, ◌++◌, length, take, drop, Some, None, Ok, Err, Option, sym, refl, ap, ◌∙◌, subst, ap₂, inl, inr, append_assoc, append-nil, arith, length-append, length-drop, take-append-drop, length-take-le, take_all, drop-drop, take_at, take-add, drop_at}
-use Rattle.std.proofs.lemmas.List.{drop_all, length_push}
+use Rattle.std.proofs.Common.{◌≡◌, ℕ, ◌+◌, ◌-◌, ◌<◌, ◌≤◌, true, false, List, [], ◌∷◌, ◌++◌, length, take, drop, Some, None, Ok, Option, sym, refl, ap, ◌∙◌, subst, ap₂, append_assoc, append-nil, arith, length-append, length-drop, take-append-drop, length-take-le, take_all, drop-drop, take_at, take-add}
+use Rattle.std.proofs.lemmas.List.{length_push}
 use Rattle.book.specs.Meaning.{Meaning}
-use Rattle.book.specs.declared.answer.Answer.TheVariants.{Done, Field}
+use Rattle.book.specs.declared.answer.Answer.TheVariants.{Done}
 use Rattle.refusal.specs.declared.fault.Fault.{Fault}
 use Rattle.refusal.specs.declared.fault.Cause.TheVariants.{CutOff, BadTag, BadLength}
 use Rattle.model.specs.declared.seen.Read.{Read}
 use Rattle.refusal.specs.Faults.{fault}
-use Rattle.model.specs.Records.{Record, TableField, TableRow, GoodTag, Fields, Begun, Full, Whole, AllWhole, joined, digits5, header, record_of, written}
+use Rattle.model.specs.Records.{Record, TableRow, GoodTag, AllWhole, joined, digits5, record_of, written}
 use Rattle.model.specs.Records.Begun.{known, lump}
 use Rattle.model.specs.Records.Full.{asked, filled}
 use Rattle.model.specs.Records.Value.{raw}
 use Rattle.model.specs.Records.AllWhole.{none as no_rows, more}
 use Rattle.model.specs.Walks.{Fails, Refuses, Says}
-use Rattle.model.specs.Walks.Refuses.{short, badtag, badlength, cutoff, inside, later}
+use Rattle.model.specs.Walks.Refuses.{badtag, badlength, cutoff, inside, later}
 use Rattle.model.specs.Looks.{Fielded, Fieldeds, Led, Listed}
-use Rattle.model.proofs.Lists.{never}
 use Rattle.model.proofs.Whole.{all_append, written_append, record_length}
 
 module _ {V : Type 0} (m : Meaning V) (a : List ℕ) (at n : ℕ) (h : 11 ≤ length a) where

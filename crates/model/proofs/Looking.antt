@@ -1,20 +1,19 @@
 -- What a look finds.
-use Rattle.std.proofs.Common.{◌≡◌, ℕ, ◌+◌, ◌-◌, ◌<◌, ◌≤◌, min, Bool, true, false, List, [], ◌∷◌, ◌++◌, length, take, drop, Some, None, Ok, Err, Option, sym, refl, ap, ◌∙◌, subst, ap₂, append_assoc, append-nil, arith, length-append, length-drop, take-append-drop, length-take-le}
+use Rattle.std.proofs.Common.{◌≡◌, ℕ, ◌+◌, ◌-◌, ◌<◌, ◌≤◌, true, false, List, [], ◌∷◌, ◌++◌, length, take, drop, Some, None, Ok, Option, sym, refl, ap, ◌∙◌, subst, ap₂, append-nil, arith, length-drop, length-take-le}
 use Rattle.book.specs.Meaning.{Meaning}
 use Rattle.refusal.specs.declared.fault.Fault.{Fault}
 use Rattle.refusal.specs.declared.fault.Cause.TheVariants.{TooLong, BadTag}
 use Rattle.model.specs.declared.area.Area.{Area}
 use Rattle.model.specs.declared.seen.Read.{Read}
-use Rattle.model.specs.declared.seen.Seen.{Seen}
 use Rattle.model.specs.declared.seen.Open.{Open}
 use Rattle.model.specs.declared.seen.Open.TheVariants.{Shut, Known, Unknown}
 use Rattle.refusal.specs.Faults.{fault}
-use Rattle.model.specs.Records.{Record, TableField, TableRow, GoodTag, Fields, Begun, AllWhole, joined, written}
+use Rattle.model.specs.Records.{Record, GoodTag, joined, written}
 use Rattle.model.specs.Records.Begun.{known, bare, lump}
 use Rattle.model.specs.Walks.{Fails, Refuses}
-use Rattle.model.specs.Ledgers.{Ledger, Stands, LookRefuses, Drafts, Drafting, area_of, drafted, reach, beyond, room}
+use Rattle.model.specs.Ledgers.{LookRefuses, reach, beyond, room}
 use Rattle.model.specs.Ledgers.LookRefuses.{long, walk, badtag, draft}
-use Rattle.model.specs.Looks.{Fielded, Fieldeds, Listed, Draws, Spoilt, Looked, OpenAs}
+use Rattle.model.specs.Looks.{Fielded, Fieldeds, Listed, Draws, Spoilt, Looked}
 use Rattle.model.specs.Looks.Spoilt.{tag, fields}
 use Rattle.model.proofs.Lists.{never}
 

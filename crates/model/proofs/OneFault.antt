@@ -1,21 +1,18 @@
 -- Data is refused in one way, and so are bytes.
-use Rattle.std.proofs.Common.{◌≡◌, ℕ, ◌+◌, ◌<◌, ◌≤◌, Bool, true, false, ◌⊎◌, List, [], ◌∷◌, ◌++◌, length, take, drop, Some, None, Option, sym, refl, ap, ◌∙◌, subst, ap₂, inl, inr, append_assoc, append-nil, arith, length-append, length-drop, take-append-drop, length-take-le}
+use Rattle.std.proofs.Common.{◌≡◌, ℕ, ◌+◌, ◌<◌, ◌≤◌, Bool, true, false, ◌⊎◌, List, [], ◌++◌, length, take, drop, None, sym, refl, ap, ◌∙◌, subst, inl, inr, append_assoc, arith, length-append, take-append-drop, length-take-le}
 use Rattle.book.specs.Meaning.{Meaning, Laws}
-use Rattle.book.specs.declared.answer.Answer.TheVariants.{Done, Field}
 use Rattle.refusal.specs.declared.fault.Fault.{Fault}
-use Rattle.model.specs.declared.area.Area.{Area}
-use Rattle.model.specs.Records.{Record, TableField, TableRow, GoodTag, Whole, AllWhole, joined, digits5, header, record_of, written}
+use Rattle.model.specs.Records.{Record, TableRow, GoodTag, Whole, AllWhole, joined, digits5, record_of, written}
 use Rattle.model.specs.Walks.{Fails, Refuses, Says}
 use Rattle.model.specs.Walks.Fails.{ends, unread, past, later}
 use Rattle.model.specs.Walks.Refuses.{short, badtag, badlength, cutoff, inside, later as after}
-use Rattle.model.specs.Ledgers.{Ledger, Stands, LookRefuses, reach, room}
 use Rattle.model.specs.Ledgers.LookRefuses.{long, walk, badtag as badbegun, draft}
 use Rattle.model.specs.Laws.{OneFault}
-use Rattle.model.proofs.Lists.{split_same, clash, halt, same_width, both, never, same_number}
-use Rattle.model.proofs.Unique.{front, one_list}
-use Rattle.refusal.specs.declared.fault.Cause.TheVariants.{TooLong, CutOff, BadTag, BadLength}
+use Rattle.model.proofs.Lists.{split_same, clash, halt, same_width, never, same_number}
+use Rattle.model.proofs.Unique.{one_list}
+use Rattle.refusal.specs.declared.fault.Cause.TheVariants.{CutOff, BadTag, BadLength}
 use Rattle.refusal.specs.Faults.{fault}
-use Rattle.model.proofs.Apart.{refuses_apart, some_data, at_least, record_inside, fails_apart}
+use Rattle.model.proofs.Apart.{refuses_apart, some_data, record_inside}
 
 too_short : (d s x : List ℕ) → length d < length s → d ≡ s ++ x → ⊥
 too_short d s x h e = let l = ap length e ∙ length-append s x in omega arith

@@ -1,11 +1,11 @@
 -- Finding record n.
-use Rattle.std.proofs.Common.{◌≡◌, ℕ, zero, suc, ◌+◌, ◌-◌, ◌<◌, ◌≤◌, List, [], ◌∷◌, ◌++◌, length, get_or, take, drop, sym, refl, ap, ◌∙◌, subst, ap₂, append_assoc, append-nil, arith, length-append, length-drop, take-append-drop, drop-drop, take_at, drop_at}
+use Rattle.std.proofs.Common.{◌≡◌, ℕ, zero, suc, ◌+◌, ◌-◌, ◌<◌, ◌≤◌, List, [], ◌∷◌, ◌++◌, length, get_or, take, drop, sym, ap, ◌∙◌, append_assoc, append-nil, arith, length-append, length-drop, take-append-drop, drop-drop, drop_at}
 use Rattle.std.proofs.lemmas.List.{take_more, drop_more}
 use Rattle.model.specs.Records.{Record, joined, digits5, record_of, written}
 use Rattle.model.specs.Walks.{Says}
 use Rattle.model.specs.Rules.{nothing}
 use Rattle.model.specs.Places.{Sized}
-use Rattle.model.proofs.Lists.{never, same_number, split_same}
+use Rattle.model.proofs.Lists.{never, same_number}
 use Rattle.model.proofs.Whole.{written_append, record_length}
 
 -- records before n, record n, records behind it

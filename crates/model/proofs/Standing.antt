@@ -1,15 +1,14 @@
 -- A buffer stands for one ledger, and is then not refused.
-use Rattle.std.proofs.Common.{◌≡◌, ℕ, ◌+◌, ◌<◌, ◌≤◌, min, Bool, true, false, List, [], ◌∷◌, ◌++◌, length, take, drop, Some, None, Option, sym, refl, ap, ◌∙◌, subst, ap₂, append_assoc, append-nil, arith, length-append}
+use Rattle.std.proofs.Common.{◌≡◌, ℕ, true, List, [], length, take, drop, Some, None, Option, sym, refl, ap, ◌∙◌, subst, ap₂, arith}
 use Rattle.book.specs.Meaning.{Meaning, Laws}
 use Rattle.refusal.specs.declared.fault.Fault.{Fault}
-use Rattle.model.specs.declared.area.Area.{Area}
-use Rattle.model.specs.Records.{Record, TableField, TableRow, GoodTag, Fields, Begun, AllWhole, joined, written}
+use Rattle.model.specs.Records.{Record, TableField, GoodTag, Begun, joined}
 use Rattle.model.specs.Records.Begun.{known, bare, lump}
-use Rattle.model.specs.Walks.{Fails, Refuses}
-use Rattle.model.specs.Ledgers.{Ledger, Stands, LookRefuses, Drafts, Drafting, drafted, area_of, reach, room}
+use Rattle.model.specs.Walks.{Fails}
+use Rattle.model.specs.Ledgers.{Ledger, Drafting, drafted}
 use Rattle.model.specs.Ledgers.LookRefuses.{long, walk, badtag, draft}
 use Rattle.model.specs.Laws.{OneLedger, NeverBoth}
-use Rattle.model.proofs.Lists.{split_same, clash, both, never}
+use Rattle.model.proofs.Lists.{clash, both, never}
 use Rattle.model.proofs.Unique.{one_list, begun_one}
 use Rattle.model.proofs.Apart.{fails_apart, refuses_apart}
 

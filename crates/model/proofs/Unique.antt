@@ -1,13 +1,11 @@
 -- Bytes are cut into records and fields in one way, and one table has one spelling.
-use Rattle.std.proofs.Common.{◌≡◌, ℕ, ◌+◌, ◌<◌, ◌≤◌, Bool, true, false, List, [], ◌∷◌, ◌++◌, length, take, drop, Some, None, Option, sym, refl, ap, ◌∙◌, subst, ap₂, append_assoc, append-nil, arith, length-append}
+use Rattle.std.proofs.Common.{◌≡◌, ℕ, ◌≤◌, List, [], ◌++◌, length, Some, sym, refl, ap, ◌∙◌, subst, ap₂, append_assoc, append-nil, arith, length-append}
 use Rattle.book.specs.Meaning.{Meaning, Laws}
-use Rattle.book.specs.declared.answer.Answer.TheVariants.{Done, Field}
-use Rattle.model.specs.Records.{Record, TableField, TableRow, Value, GoodTag, Fields, Begun, Full, Whole, AllWhole, ReadsAs, joined, digits5, header, record_of, written}
-use Rattle.model.specs.Records.Value.{read, raw}
+use Rattle.model.specs.Records.{Record, TableField, TableRow, Fields, Begun, AllWhole, ReadsAs, joined, digits5, header, record_of, written}
 use Rattle.model.specs.Records.Fields.{none, next}
 use Rattle.model.specs.Records.Begun.{known, bare, lump}
 use Rattle.model.specs.Records.AllWhole.{none as no_rows, more}
-use Rattle.model.proofs.Lists.{split_same, clash, halt, same_width, same_name, both, never, same_number}
+use Rattle.model.proofs.Lists.{split_same, same_width, same_name, both, never, same_number}
 
 abbrev entry : List ℕ → List (List ℕ) → Record
 entry t ss = record { tag = t; spellings = ss }

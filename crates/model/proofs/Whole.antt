@@ -1,10 +1,10 @@
 -- Lists of whole records: put together, cut, one more; a draft with one spelling more.
-use Rattle.std.proofs.Common.{◌≡◌, ℕ, zero, suc, ◌+◌, ◌<◌, ◌≤◌, Bool, true, false, ◌⊎◌, List, [], ◌∷◌, ◌++◌, map, length, get_or, take, drop, set, Some, None, Option, sym, refl, ap, ◌∙◌, subst, ap₂, inl, inr, ⊎_elim, append_assoc, append-nil, arith, length-append}
+use Rattle.std.proofs.Common.{◌≡◌, ℕ, zero, suc, ◌+◌, ◌<◌, Bool, true, false, List, [], ◌∷◌, ◌++◌, length, get_or, take, drop, set, Some, None, Option, sym, refl, ap, ◌∙◌, subst, inl, inr, append_assoc, append-nil, arith, length-append}
 use Rattle.std.proofs.lemmas.Bool.{cases_eq, cases_lt}
-use Rattle.book.specs.Meaning.{Meaning, Laws}
+use Rattle.book.specs.Meaning.{Meaning}
 use Rattle.book.specs.declared.answer.Answer.{Answer}
 use Rattle.book.specs.declared.answer.Answer.TheVariants.{Done, Field}
-use Rattle.model.specs.Records.{Record, TableField, TableRow, Value, GoodTag, Fields, Begun, Full, Wanting, Misfits, Whole, AllWhole, joined, digits5, header, record_of, written}
+use Rattle.model.specs.Records.{Record, TableField, TableRow, Fields, Begun, Full, Wanting, Misfits, Whole, AllWhole, joined, digits5, record_of, written}
 use Rattle.model.specs.Records.Value.{read, raw}
 use Rattle.model.specs.Records.Fields.{none, next}
 use Rattle.model.specs.Records.Begun.{known, bare, lump}
@@ -13,7 +13,7 @@ use Rattle.model.specs.Records.Wanting.{asks, empty}
 use Rattle.model.specs.Records.Misfits.{width, empty as hollow}
 use Rattle.model.specs.Records.AllWhole.{none as no_rows, more}
 use Rattle.model.specs.Rules.{nothing}
-use Rattle.model.proofs.Lists.{both, never, halt, clash, joined_push}
+use Rattle.model.proofs.Lists.{never}
 
 pub written_append : (l k : List Record) → written (l ++ k) ≡ written l ++ written k
 written_append [] k = refl

@@ -1,5 +1,5 @@
 -- The ledger, and when a buffer stands for one.
-use Rattle.std.specs.Prelude.{◌≡◌, ℕ, ◌+◌, ◌<◌, ◌≤◌, min, Bool, true, false, List, [], ◌∷◌, ◌++◌, length, take, drop, Some, None, Option}
+use Rattle.std.specs.Prelude.{◌≡◌, ℕ, ◌+◌, ◌<◌, ◌≤◌, min, true, List, [], length, take, drop, Some, None, Option}
 use Rattle.book.specs.Meaning.{Meaning}
 use Rattle.refusal.specs.declared.fault.Cause.TheVariants.{TooLong, BadTag}
 use Rattle.refusal.specs.declared.fault.Fault.{Fault}

@@ -1,7 +1,7 @@
 -- What the looks at bytes find.
-use Rattle.std.specs.Prelude.{◌≡◌, ℕ, ◌+◌, ◌<◌, ◌≤◌, Bool, true, false, List, [], ◌∷◌, ◌++◌, length, take, drop, Some, None, Ok, Err, Option, Result}
+use Rattle.std.specs.Prelude.{◌≡◌, ℕ, ◌+◌, Bool, true, false, List, [], ◌++◌, length, take, drop, Some, None, Ok, Err, Option, Result}
 use Rattle.book.specs.Meaning.{Meaning}
-use Rattle.book.specs.declared.answer.Answer.TheVariants.{Done, Field}
+use Rattle.book.specs.declared.answer.Answer.TheVariants.{Done}
 use Rattle.refusal.specs.declared.fault.Fault.{Fault}
 use Rattle.refusal.specs.declared.fault.Cause.TheVariants.{BadTag}
 use Rattle.model.specs.declared.area.Area.{Area}

@@ -1,5 +1,5 @@
 -- Records whose tags and lengths are as a record's must be.
-use Rattle.std.specs.Prelude.{◌≡◌, ℕ, ◌≤◌, List, [], ◌∷◌, ◌++◌, length}
+use Rattle.std.specs.Prelude.{◌≡◌, ◌≤◌, List, [], ◌∷◌, length}
 use Rattle.model.specs.Records.{Record, joined}
 
 abbrev pub Sized : List Record → Type 0

@@ -1,5 +1,5 @@
 -- Records as a ledger holds them, how they are written, and when a book takes one.
-use Rattle.std.specs.Prelude.{◌≡◌, ℕ, ◌+◌, ◌/◌, ◌%◌, ◌<◌, ◌≤◌, Bool, true, false, List, [], ◌∷◌, ◌++◌, length, Some, None, ◌≢◌, slice_index, slice_index_or}
+use Rattle.std.specs.Prelude.{◌≡◌, ℕ, ◌+◌, ◌/◌, ◌%◌, ◌<◌, ◌≤◌, true, false, List, [], ◌∷◌, ◌++◌, length, Some, ◌≢◌, slice_index, slice_index_or}
 use Rattle.book.specs.Meaning.{Meaning}
 use Rattle.book.specs.declared.answer.Answer.TheVariants.{Done, Field}
 

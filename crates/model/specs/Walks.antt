@@ -1,11 +1,11 @@
 -- Why bytes do not read: one constructor for each refusal of a walk.
-use Rattle.std.specs.Prelude.{◌≡◌, ℕ, ◌+◌, ◌<◌, ◌≤◌, Bool, true, false, List, [], ◌∷◌, ◌++◌, length, take, drop, Some, None}
+use Rattle.std.specs.Prelude.{◌≡◌, ℕ, ◌+◌, ◌<◌, ◌≤◌, Bool, true, false, List, [], ◌++◌, length, Some, None}
 use Rattle.book.specs.Meaning.{Meaning}
 use Rattle.book.specs.declared.answer.Answer.TheVariants.{Done, Field}
 use Rattle.refusal.specs.declared.fault.Cause.TheVariants.{CutOff, BadTag, BadLength, Unread, EndsEarly, PastDone}
 use Rattle.refusal.specs.declared.fault.Fault.{Fault}
 use Rattle.refusal.specs.Faults.{fault}
-use Rattle.model.specs.Records.{Record, TableRow, GoodTag, Whole, joined, digits5, header, record_of}
+use Rattle.model.specs.Records.{Record, TableRow, GoodTag, Whole, joined, digits5, record_of}
 
 -- the five bytes are the digits of a length from 1 to 99985
 abbrev pub Says : List ℕ → ℕ → Type 0

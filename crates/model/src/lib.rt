@@ -1,3 +1,5 @@
+#![tactic(auto)]
+
 pub mod area;
 pub mod law;
 pub mod seen;

@@ -1,14 +1,13 @@
 -- The pages of unknown tags.
-use Rattle.std.proofs.Common.{◌≡◌, ℕ, zero, suc, ◌+◌, ◌<◌, ◌≤◌, List, [], ◌∷◌, length, get_or, take, codes, sym, refl, ◌∙◌, arith}
-use Rattle.model.specs.Records.{Record, GoodTag, ReadsAs, AllWhole, Whole, record_of}
+use Rattle.std.proofs.Common.{◌≡◌, ℕ, zero, suc, ◌+◌, ◌<◌, ◌≤◌, List, [], ◌∷◌, get_or, take, codes, refl, arith}
+use Rattle.model.specs.Records.{GoodTag, record_of}
 use Rattle.model.specs.Records.Value.{raw}
 use Rattle.model.specs.Records.Begun.{lump}
 use Rattle.model.specs.Records.Full.{filled}
 use Rattle.model.specs.Records.AllWhole.{none as no_rows, more}
-use Rattle.model.specs.Walks.{Refuses, Says}
+use Rattle.model.specs.Walks.{Says}
 use Rattle.model.specs.Walks.Refuses.{cutoff, badlength}
 use Rattle.model.proofs.Lists.{never, same_number}
-use Rattle.issued.specs.Meant.{issued}
 use Rattle.pages.specs.Pages.{Holds, hello, hello_record, hello_field}
 use Rattle.pages.specs.Pages.Page.{area, refused}
 use Rattle.refusal.specs.declared.fault.Cause.TheVariants.{CutOff, BadLength}

@@ -1,3 +1,5 @@
+#![tactic(auto)]
+
 ghost use Rattle.pages.specs.Pages.{All, pages};
 
 // Each page of the list holds: a theorem, and nothing to compute.

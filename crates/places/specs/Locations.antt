@@ -1,5 +1,5 @@
 -- Locations to the minute: ddmmX and dddmmY.
-use Rattle.std.specs.Prelude.{◌≡◌, ℕ, List, Option, refl}
+use Rattle.std.specs.Prelude.{ℕ, List, Option, refl}
 use Rattle.std.proofs.Common.{arith}
 use Rattle.kind.specs.Kinds.{Laws}
 use Rattle.kinds.specs.declared.layers.Both.{Both}

@@ -1,3 +1,5 @@
+#![tactic(auto)]
+
 pub mod fine;
 pub mod fine_latitudes;
 pub mod fine_longitudes;

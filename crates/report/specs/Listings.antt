@@ -1,5 +1,5 @@
 -- The listing of an area, as bytes.
-use Rattle.std.specs.Prelude.{◌≡◌, ℕ, ◌+◌, ◌<◌, ◌≤◌, List, [], ◌∷◌, ◌++◌, length}
+use Rattle.std.specs.Prelude.{ℕ, ◌+◌, ◌<◌, ◌≤◌, List, [], ◌∷◌, ◌++◌, length}
 use Rattle.book.specs.Meaning.{Meaning}
 use Rattle.lines.specs.Lines.{record_line, field_line, end_line, refusal_line}
 use Rattle.model.specs.Records.{Record, TableRow, ReadsAs, joined}

@@ -1,3 +1,5 @@
+#![tactic(auto)]
+
 // The listing of an area: a line for each record and each field, and an end line, or the one line of a refusal.
 ghost use Rattle.std.specs.Prelude.{◌≡◌, ◌≤◌, List, length, IfOk, string_bytes};
 ghost use Rattle.lines.specs.Lines.{refusal_line};

@@ -2,7 +2,7 @@
 use Rattle.std.proofs.Common.{◌≡◌, ℕ, Bool, false, List, Some, Option, Result, sym, subst}
 use Rattle.refusal.specs.declared.fault.Fault.{Fault}
 use Rattle.kind.specs.Kinds.{Checked, Spelled}
-use Rattle.fields.proofs.Tagging.{checked}
+use Rattle.fields.proofs.Tagging.{checked, spelled}
 use Rattle.rows.specs.declared.cell.Cell.{Cell}
 use Rattle.rows.specs.declared.code.Code.{Code}
 use Rattle.rows.specs.declared.row.Row.{Row}
@@ -27,3 +27,8 @@ module _ (k : Cell) (c : Code) (e : k.row.kind ≡ c) where
 pub of_cell : (r : Row) (sar : Bool) (s : List ℕ) (x : Result (Unit {0}) Fault) → r.blank ≡ false → Checked (kind_of r sar) s x → Checked (slot r sar) s x
 unfolding slot
 of_cell r sar s x e p = rw e (checked Some (kind_of r sar) s x p)
+
+-- and is spelled as its kind spells
+pub of_cell_spelled : (r : Row) (sar : Bool) (v : Reading) (w : Option Reading) (old new : List ℕ) (x : Result (Unit {0}) Fault) → r.blank ≡ false → w ≡ Some v → Spelled (kind_of r sar) v old new x → Spelled (slot r sar) w old new x
+unfolding slot
+of_cell_spelled r sar v w old new x e same p = rw (e, same) (spelled Some (λ a b q. cc) (kind_of r sar) v old new x p)

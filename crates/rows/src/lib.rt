@@ -1,3 +1,5 @@
+#![tactic(auto)]
+
 // What was read, as a value of the group.
 macro_rules! map_ok {
     ($read:expr, $pattern:pat => $value:expr) => {

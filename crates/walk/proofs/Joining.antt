@@ -1,11 +1,11 @@
 -- Outcomes that a place or a number has joined.
-use Rattle.std.proofs.Common.{◌≡◌, ℕ, ◌+◌, ◌-◌, ◌≤◌, List, length, take, drop, Ok, Err, Result, sym, refl, ap, ◌∙◌, subst, arith}
+use Rattle.std.proofs.Common.{◌≡◌, ℕ, ◌+◌, ◌-◌, ◌≤◌, List, length, take, drop, Ok, Err, Result, sym, refl, subst, arith}
 use Rattle.book.specs.Meaning.{Meaning}
 use Rattle.book.specs.Marks.{Fits, Passes, Passed}
 use Rattle.book.specs.declared.answer.Answer.TheVariants.{Field}
 use Rattle.model.proofs.Fielding.{cut, cut_long}
 use Rattle.refusal.specs.declared.fault.Fault.{Fault}
-use Rattle.refusal.specs.Faults.{unread, in_field, in_record, fielded, recorded}
+use Rattle.refusal.specs.Faults.{in_field, in_record, fielded, recorded}
 
 clash : {A : Type 0} → ◌≡◌ {A = ℕ} 0 1 → A
 clash z = let bad : ⊥ = omega arith in elim bad [ ]

@@ -1,11 +1,10 @@
 -- The first record of some bytes: its refusals get its number, and what was read is a record.
-use Rattle.std.proofs.Common.{◌≡◌, ℕ, ◌+◌, ◌-◌, ◌<◌, ◌≤◌, Bool, true, false, List, [], ◌∷◌, ◌++◌, length, take, drop, Ok, Err, Option, sym, refl, ap, ◌∙◌, subst, arith}
+use Rattle.std.proofs.Common.{◌≡◌, ℕ, ◌+◌, ◌<◌, Bool, true, false, List, [], length, take, drop, Ok, Err, Option, subst}
 use Rattle.book.specs.Meaning.{Meaning}
 use Rattle.refusal.specs.declared.fault.Fault.{Fault}
 use Rattle.refusal.specs.Faults.{in_record}
 use Rattle.model.specs.declared.seen.Read.{Read}
-use Rattle.model.specs.Records.{GoodTag}
-use Rattle.model.specs.Walks.{Fails, Refuses, Says}
+use Rattle.model.specs.Walks.{Fails, Refuses}
 use Rattle.model.specs.Walks.Fails.{ends, unread, past, later}
 use Rattle.model.specs.Walks.Refuses.{short as cut_short}
 use Rattle.model.specs.Looks.{Fieldeds, Led}

@@ -8,7 +8,7 @@ use Rattle.lines.proofs.printed.Goals as goal
 pub loop-b-preserved : goal.loop-b-preserved
 loop-b-preserved c =
     grown c.args.tag c.loop-b.b-index c.printable.result _ (search rules) (search rules)
-    (pushed (encode c.printable.result) c.loop-b.invariant c.in-ok-push.was c.push.ensures.bytes)
+    (pushed (encode c.printable.result) c.loop-b.invariant c.in_ok-push.was c.push.ensures.bytes)
 
 pub returns : goal.returns
 returns c = search (rules, take_all)

@@ -6,4 +6,4 @@ use Rattle.lines.specs.Lines.{bracketed}
 pub returns : goal.returns
 returns c =
     carried (bracketed c.args.number c.args.place c.args.length) _
-    (c.as-str.ensures.value ∙ c.in-ok-text.ensures) c.in-brackets.ensures
+    (c.as_str.ensures.value ∙ c.in_ok-text.ensures) c.in_brackets.ensures

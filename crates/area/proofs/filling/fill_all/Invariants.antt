@@ -1,4 +1,4 @@
-use Rattle.std.proofs.Common.{◌≡◌, ℕ, ◌-◌, ◌≤◌, List, length, take}
+use Rattle.std.proofs.Common.{◌≡◌, ◌-◌, ◌≤◌, List, length, take}
 use Rattle.model.specs.Records.{Record, TableRow, AllWhole, written}
 use Rattle.area.specs.Listing.{field_total}
 use Rattle.area.proofs.Filled.{Sofar}

@@ -1,15 +1,15 @@
-use Rattle.std.proofs.Common.{◌≡◌, length, get_or, take, drop, sym, refl, ap, ◌∙◌, subst, arith, take-add}
+use Rattle.std.proofs.Common.{length, sym, refl, ap, ◌∙◌, subst, arith, take-add}
 use Rattle.model.proofs.Lists.{never}
 use Rattle.walk.proofs.Joining.{passed_ok, passed_err}
-use Rattle.area.specs.Finding.{Fielded, Parted, names}
-use Rattle.area.proofs.Parting.{unknown_field, none_there, one_there, asked_at, fits_at, reads_at, part_at, next_at}
+use Rattle.area.specs.Finding.{Parted, names}
+use Rattle.area.proofs.Parting.{unknown_field, none_there, fits_at, reads_at, part_at, next_at}
 use Rattle.area.proofs.finding.find_field.Goals as goal
 
 pub returns-then-k-eq0 : goal.returns-then-k-eq0
 returns-then-k-eq0 g c = record {
   within = omega arith;
   finds = λ ss fs w.
-      let u = unknown_field w c.args.k c.in-default.ensures in
+      let u = unknown_field w c.args.k c.in_default.ensures in
       let z = c.if-k-eq0.true in
       rw z (record { there = omega arith; name_is = sym u.2; start_is = refl; width_is = ap length (sym u.1) });
 }
@@ -18,17 +18,17 @@ pub returns-else-k-eq0 : goal.returns-else-k-eq0
 returns-else-k-eq0 g c = record {
   within = tt;
   finds = λ ss fs w.
-      let u = unknown_field w c.args.k c.in-default.ensures in
+      let u = unknown_field w c.args.k c.in_default.ensures in
       let z = c.if-k-eq0.false in
       omega arith;
 }
 
-pub returns-in-default-next : goal.returns-in-default-next
-returns-in-default-next g c = record {
+pub returns-in_default-next : goal.returns-in_default-next
+returns-in_default-next g c = record {
   within = tt;
   finds = λ ss fs w.
       let v = c.loop-name.invariant.4 ss fs w in
-      let d = none_there w c.in-Some.ensures.0 c.loop-name.i c.loop-name.at v.0 v.1 (sym (c.next.ensures _ _ c.loop-name.invariant.3) ∙ c.in-default-next.is) in
+      let d = none_there w c.in-Some.ensures.0 c.loop-name.i c.loop-name.at v.0 v.1 (sym (c.next.ensures _ _ c.loop-name.invariant.3) ∙ c.in_default-next.is) in
       let k = c.loop-name.invariant.1 in
       omega arith;
 }
@@ -78,5 +78,5 @@ loop-name-preserved g c =
     let kn = c.in-Some.ensures.0 in
     let a = sym (c.in-Field.ensures _ _ c.loop-name.invariant.3) in
     let w = (g.B.Book.laws c.args.book.now).wide _ _ _ _ a in
-    let x = passed_ok m (g.B.Book.stands c.args.book.now) c.args.tag.now c.args.bytes.now c.loop-name.at c.in-Field.name c.in-Field.width c.loop-name.mark c.pass.new.mark c.pass.result a c.if-bytes-at.false c.loop-name.invariant.3 c.pass.ensures c.in-default-pass.is in
+    let x = passed_ok m (g.B.Book.stands c.args.book.now) c.args.tag.now c.args.bytes.now c.loop-name.at c.in-Field.name c.in-Field.width c.loop-name.mark c.pass.new.mark c.pass.result a c.if-bytes-at.false c.loop-name.invariant.3 c.pass.ensures c.in_default-pass.is in
     (omega (arith, c.loop-name.invariant.0, c.if-bytes-at.false), omega (arith, c.loop-name.invariant.1, c.if-i-k.false), omega (arith, c.loop-name.invariant.2, w.0), rw take-add x.2, λ ss fs h. let v = c.loop-name.invariant.4 ss fs h in next_at h kn c.loop-name.i c.loop-name.at v.0 v.1 c.in-Field.name c.in-Field.width a)

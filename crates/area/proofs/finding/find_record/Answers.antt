@@ -1,6 +1,5 @@
-use Rattle.std.proofs.Common.{◌≡◌, length, drop, sym, refl, subst, arith}
+use Rattle.std.proofs.Common.{refl, subst, arith}
 use Rattle.std.proofs.lemmas.List.{take_rest}
-use Rattle.walk.specs.Heads.{Headed, Headless}
 use Rattle.area.specs.Finding.{Located}
 use Rattle.area.proofs.Located.{stop_none, found, next_record, reach}
 use Rattle.area.proofs.finding.find_record.Goals as goal
@@ -8,8 +7,8 @@ use Rattle.area.proofs.finding.find_record.Goals as goal
 pub loop-head-init : goal.loop-head-init
 loop-head-init c = (omega arith, omega arith, omega arith, λ k s e. (omega arith, refl))
 
-pub returns-in-default : goal.returns-in-default
-returns-in-default c = record { within = tt; finds = λ l s e. let v = c.loop-head.invariant.3 l s e in stop_none c.args.bytes.now l c.loop-head.i c.loop-head.at s e v.1 c.args.n c.loop-head.invariant.1 (rw take_rest at c.in-default.ensures) }
+pub returns-in_default : goal.returns-in_default
+returns-in_default c = record { within = tt; finds = λ l s e. let v = c.loop-head.invariant.3 l s e in stop_none c.args.bytes.now l c.loop-head.i c.loop-head.at s e v.1 c.args.n c.loop-head.invariant.1 (rw take_rest at c.in_default.ensures) }
 
 pub returns-then-i-n : goal.returns-then-i-n
 returns-then-i-n c = record {

@@ -1,9 +1,7 @@
-use Rattle.std.proofs.Common.{◌≡◌, ◌+◌, ◌<◌, ◌≤◌, ◌⊎◌, length, get_or, take, sym, refl, ap, ◌∙◌, inl, inr, arith, length-append}
+use Rattle.std.proofs.Common.{length, refl, ap, inl, inr, arith}
 use Rattle.std.proofs.lemmas.Result.{err_from_is_err_and}
 use Rattle.refusal.specs.declared.fault.Cause.TheVariants.{NoSuch}
 use Rattle.refusal.specs.Faults.{fault}
-use Rattle.model.specs.Records.{written, joined}
-use Rattle.model.specs.Rules.{nothing}
 use Rattle.model.proofs.Lists.{never}
 use Rattle.area.specs.Reading.Answers.{astray, refused, answered}
 use Rattle.area.proofs.Located.{sound_at}
@@ -11,20 +9,20 @@ use Rattle.area.proofs.Telling.{all_sound, at_record, moved, inside}
 use Rattle.area.proofs.Lying.{in_header, in_data}
 use Rattle.area.proofs.reading.which.Goals as goal
 
-pub returns-in-err-bytes : goal.returns-in-err-bytes
-returns-in-err-bytes g c =
-    let p = err_from_is_err_and c.from-residual.result c.from-residual.ensures.1 in
-    rw (p.1, p.2) (astray c.in-err-bytes.ensures)
+pub returns-in_err-bytes : goal.returns-in_err-bytes
+returns-in_err-bytes g c =
+    let p = err_from_is_err_and c.from_residual.result c.from_residual.ensures.1 in
+    rw (p.1, p.2) (astray c.in_err-bytes.ensures)
 
-pub returns-in-default : goal.returns-in-default
-returns-in-default g c =
-    let l = c.in-ok-bytes.ensures in
-    let h = c.in-default.ensures l.ledger.records (all_sound (g.B.Book.laws c.args.book.now) l.stood.whole) l.is in
+pub returns-in_default : goal.returns-in_default
+returns-in_default g c =
+    let l = c.in_ok-bytes.ensures in
+    let h = c.in_default.ensures l.ledger.records (all_sound (g.B.Book.laws c.args.book.now) l.stood.whole) l.is in
     rw c.new.ensures (refused l.ledger l.table l.stood (inl (fault NoSuch 0 0 0, (h, refl), refl)))
 
 pub returns-then-held : goal.returns-then-held
 returns-then-held g c =
-    let l = c.in-ok-bytes.ensures in
+    let l = c.in_ok-bytes.ensures in
     let s = all_sound (g.B.Book.laws c.args.book.now) l.stood.whole in
     let x = c.in-Some.ensures l.ledger.records s l.is in
     let h = c.in-Some.held in
@@ -35,33 +33,33 @@ returns-then-held g c =
     let w = inside l.ledger.records h.number x.0.there (sound_at l.ledger.records h.number x.0.there s).0.six in
     answered l.ledger l.table l.stood (inr (λ f z. let q = z.0 in omega arith, refl)) (x.0.there, (refl, omega arith, omega arith))
 
-pub overflow-sub-byte : goal.overflow-sub-byte
-overflow-sub-byte g c =
-    let l = c.in-ok-bytes.ensures in
+pub overflow_sub-byte : goal.overflow_sub-byte
+overflow_sub-byte g c =
+    let l = c.in_ok-bytes.ensures in
     let s = all_sound (g.B.Book.laws c.args.book.now) l.stood.whole in
     let x = c.in-Some.ensures l.ledger.records s l.is in
     let h = c.in-Some.held in
     let y = in_data h.in_header h.place (length h.head.data.now) c.args.byte c.if-held.false x.1 in
     omega (arith, y.0)
 
-pub overflow-sub-byte-2 : goal.overflow-sub-byte-2
-overflow-sub-byte-2 g c =
-    let l = c.in-ok-bytes.ensures in
+pub overflow_sub-byte-2 : goal.overflow_sub-byte-2
+overflow_sub-byte-2 g c =
+    let l = c.in_ok-bytes.ensures in
     let s = all_sound (g.B.Book.laws c.args.book.now) l.stood.whole in
     let x = c.in-Some.ensures l.ledger.records s l.is in
     let h = c.in-Some.held in
     let y = in_data h.in_header h.place (length h.head.data.now) c.args.byte c.if-held.false x.1 in
     omega (arith, y.0)
 
-pub returns-in-default-holding-field : goal.returns-in-default-holding-field
-returns-in-default-holding-field g c =
-    let l = c.in-ok-bytes.ensures in
+pub returns-in_default-holding_field : goal.returns-in_default-holding_field
+returns-in_default-holding_field g c =
+    let l = c.in_ok-bytes.ensures in
     let s = all_sound (g.B.Book.laws c.args.book.now) l.stood.whole in
     let x = c.in-Some.ensures l.ledger.records s l.is in
     let h = c.in-Some.held in
     let y = in_data h.in_header h.place (length h.head.data.now) c.args.byte c.if-held.false x.1 in
     let a = at_record h.number x.0.there l.stood.whole in
-    let k = c.in-default-holding-field.ensures _ _ (moved x.0.tag_is x.0.data_is a.holds) in
+    let k = c.in_default-holding_field.ensures _ _ (moved x.0.tag_is x.0.data_is a.holds) in
     let d = ap length x.0.data_is in
     let y0 = y.0 in
     let y1 = y.1 in
@@ -69,13 +67,13 @@ returns-in-default-holding-field g c =
 
 pub returns : goal.returns
 returns g c =
-    let l = c.in-ok-bytes.ensures in
+    let l = c.in_ok-bytes.ensures in
     let s = all_sound (g.B.Book.laws c.args.book.now) l.stood.whole in
     let x = c.in-Some.ensures l.ledger.records s l.is in
     let h = c.in-Some.held in
     let y = in_data h.in_header h.place (length h.head.data.now) c.args.byte c.if-held.false x.1 in
     let a = at_record h.number x.0.there l.stood.whole in
-    let k = c.in-Some-holding-field.ensures _ _ (moved x.0.tag_is x.0.data_is a.holds) in
+    let k = c.in-Some-holding_field.ensures _ _ (moved x.0.tag_is x.0.data_is a.holds) in
     let d = ap length x.0.data_is in
     let p = x.0.place_is in
     let y0 = y.0 in

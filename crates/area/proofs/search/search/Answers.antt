@@ -1,4 +1,4 @@
-use Rattle.std.proofs.Common.{◌≡◌, arith, rules}
+use Rattle.std.proofs.Common.{arith, rules}
 use Rattle.area.proofs.Rises.{above, below}
 use Rattle.area.proofs.search.search.Goals as goal
 

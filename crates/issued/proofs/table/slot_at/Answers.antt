@@ -3,5 +3,5 @@ use Rattle.rows.specs.Fair.{fair}
 use Rattle.issued.proofs.Tables.{row_fair}
 use Rattle.issued.proofs.table.slot_at.Goals as goal
 
-pub invariant-of-result : goal.invariant-of-result
-invariant-of-result c = (ap fair c.at.ensures ∙ row_fair c.args.i c.requires, tt)
+pub invariant_of-result : goal.invariant_of-result
+invariant_of-result c = record { ok = ap fair c.at.ensures ∙ row_fair c.args.i c.requires }

@@ -3,14 +3,14 @@ use Rattle.std.proofs.lemmas.List.{at_drop_more, at_drop_all}
 use Rattle.kinds.proofs.Horner.{after, after_is, tens, ten_more, figure_at}
 use Rattle.kinds.proofs.digits.value_of.Goals as goal
 
-pub overflow-mul-sum : goal.overflow-mul-sum
-overflow-mul-sum c = omega (arith, tens c.loop-i.i 17 (omega arith), c.loop-i.invariant.2)
+pub overflow_mul-sum : goal.overflow_mul-sum
+overflow_mul-sum c = omega (arith, tens c.loop-i.i 17 (omega arith), c.loop-i.invariant.2)
 
-pub overflow-sub-sum : goal.overflow-sub-sum
-overflow-sub-sum c = omega (arith, (figure_at c.args.s.now c.loop-i.i (omega arith) c.loop-i.invariant.1).0)
+pub overflow_sub-sum : goal.overflow_sub-sum
+overflow_sub-sum c = omega (arith, (figure_at c.args.s.now c.loop-i.i (omega arith) c.loop-i.invariant.1).0)
 
-pub overflow-add-sum : goal.overflow-add-sum
-overflow-add-sum c = omega (arith, tens c.loop-i.i 17 (omega arith), c.loop-i.invariant.2, (figure_at c.args.s.now c.loop-i.i (omega arith) c.loop-i.invariant.1).1)
+pub overflow_add-sum : goal.overflow_add-sum
+overflow_add-sum c = omega (arith, tens c.loop-i.i 17 (omega arith), c.loop-i.invariant.2, (figure_at c.args.s.now c.loop-i.i (omega arith) c.loop-i.invariant.1).1)
 
 pub loop-i-preserved : goal.loop-i-preserved
 loop-i-preserved c =

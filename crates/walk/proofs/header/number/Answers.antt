@@ -1,21 +1,21 @@
-use Rattle.std.proofs.Common.{◌≡◌, ◌/◌, ◌%◌, length, get_or, ap, arith}
+use Rattle.std.proofs.Common.{◌/◌, ◌%◌, get_or, ap, arith}
 use Rattle.model.proofs.Digits.{value}
 use Rattle.walk.proofs.header.number.Goals as goal
 
-pub returns-in-default : goal.returns-in-default
-returns-in-default c = λ n h e. c.in-default.ensures (n / 10000 % 10) (omega arith) (ap (λ l. get_or l 0 0) e)
+pub returns-in_default : goal.returns-in_default
+returns-in_default c = λ n h e. c.in_default.ensures (n / 10000 % 10) (omega arith) (ap (λ l. get_or l 0 0) e)
 
-pub returns-in-default-digit : goal.returns-in-default-digit
-returns-in-default-digit c = λ n h e. c.in-default-digit.ensures (n / 1000 % 10) (omega arith) (ap (λ l. get_or l 1 0) e)
+pub returns-in_default-digit : goal.returns-in_default-digit
+returns-in_default-digit c = λ n h e. c.in_default-digit.ensures (n / 1000 % 10) (omega arith) (ap (λ l. get_or l 1 0) e)
 
-pub returns-in-default-digit-2 : goal.returns-in-default-digit-2
-returns-in-default-digit-2 c = λ n h e. c.in-default-digit-2.ensures (n / 100 % 10) (omega arith) (ap (λ l. get_or l 2 0) e)
+pub returns-in_default-digit-2 : goal.returns-in_default-digit-2
+returns-in_default-digit-2 c = λ n h e. c.in_default-digit-2.ensures (n / 100 % 10) (omega arith) (ap (λ l. get_or l 2 0) e)
 
-pub returns-in-default-digit-3 : goal.returns-in-default-digit-3
-returns-in-default-digit-3 c = λ n h e. c.in-default-digit-3.ensures (n / 10 % 10) (omega arith) (ap (λ l. get_or l 3 0) e)
+pub returns-in_default-digit-3 : goal.returns-in_default-digit-3
+returns-in_default-digit-3 c = λ n h e. c.in_default-digit-3.ensures (n / 10 % 10) (omega arith) (ap (λ l. get_or l 3 0) e)
 
-pub returns-in-default-digit-4 : goal.returns-in-default-digit-4
-returns-in-default-digit-4 c = λ n h e. c.in-default-digit-4.ensures (n % 10) (omega arith) (ap (λ l. get_or l 4 0) e)
+pub returns-in_default-digit-4 : goal.returns-in_default-digit-4
+returns-in_default-digit-4 c = λ n h e. c.in_default-digit-4.ensures (n % 10) (omega arith) (ap (λ l. get_or l 4 0) e)
 
 pub returns : goal.returns
 returns c =

@@ -1,5 +1,4 @@
-use Rattle.std.proofs.Common.{◌≡◌, ◌≤◌, length, sym, subst, arith, rules}
-use Rattle.std.proofs.lemmas.List.{take_rest}
+use Rattle.std.proofs.Common.{◌≤◌, length, sym, subst, arith, rules}
 use Rattle.model.specs.Records.{GoodTag}
 use Rattle.model.specs.Walks.{Says}
 use Rattle.walk.specs.Heads.{Headless}
@@ -7,30 +6,30 @@ use Rattle.walk.specs.Heads.Headless.{short, tag, digits, end}
 use Rattle.walk.proofs.Heading.{named, held}
 use Rattle.walk.proofs.header.read_header.Goals as goal
 
-pub returns-in-default : goal.returns-in-default
-returns-in-default c = subst (Headless _ _) (sym c.new.ensures) (short (search rules))
+pub returns-in_default : goal.returns-in_default
+returns-in_default c = subst (Headless _ _) (sym c.new.ensures) (short (search rules))
 
-pub returns-then-not-good-tag : goal.returns-then-not-good-tag
-returns-then-not-good-tag c =
+pub returns-then-not-good_tag : goal.returns-then-not-good_tag
+returns-then-not-good_tag c =
     let l : 11 ≤ length c.args.bytes.now = search rules in
     let n = named c.args.bytes.now l in
-    subst (Headless _ _) (sym c.new-then-not-good-tag.ensures) (tag l (λ g. c.if-not-good-tag.ensures (subst GoodTag (sym n.tag) g)))
+    subst (Headless _ _) (sym c.new-then-not-good_tag.ensures) (tag l (λ g. c.if-not-good_tag.ensures (subst GoodTag (sym n.tag) g)))
 
-pub returns-in-default-said : goal.returns-in-default-said
-returns-in-default-said c =
+pub returns-in_default-said : goal.returns-in_default-said
+returns-in_default-said c =
     let l : 11 ≤ length c.args.bytes.now = search rules in
     let n = named c.args.bytes.now l in
-    subst (Headless _ _) (sym c.new-in-default-said.ensures) (digits l (subst GoodTag n.tag c.if-not-good-tag.ensures) (λ k s. c.in-default-said.ensures k (subst (λ d. Says d k) (sym n.digits) s)))
+    subst (Headless _ _) (sym c.new-in_default-said.ensures) (digits l (subst GoodTag n.tag c.if-not-good_tag.ensures) (λ k s. c.in_default-said.ensures k (subst (λ d. Says d k) (sym n.digits) s)))
 
 pub returns-then-rest-length : goal.returns-then-rest-length
 returns-then-rest-length c =
     let l : 11 ≤ length c.args.bytes.now = search rules in
     let n = named c.args.bytes.now l in
-    subst (Headless _ _) (sym c.new-then-rest-length.ensures) (end l (subst GoodTag n.tag c.if-not-good-tag.ensures) c.in-Some.length (subst (λ d. Says d c.in-Some.length) n.digits c.in-Some.ensures) (omega arith))
+    subst (Headless _ _) (sym c.new-then-rest-length.ensures) (end l (subst GoodTag n.tag c.if-not-good_tag.ensures) c.in-Some.length (subst (λ d. Says d c.in-Some.length) n.digits c.in-Some.ensures) (omega arith))
 
 pub returns : goal.returns
 returns c =
     let l : 11 ≤ length c.args.bytes.now = search rules in
     let n = named c.args.bytes.now l in
     let x = held c.args.bytes.now c.in-Some.length c.if-rest-length.false (subst (λ d. Says d c.in-Some.length) n.digits c.in-Some.ensures) in
-    record { long = l; good = subst GoodTag n.tag c.if-not-good-tag.ensures; tag = n.tag; says = x.says; data_is = x.is; there = x.there }
+    record { long = l; good = subst GoodTag n.tag c.if-not-good_tag.ensures; tag = n.tag; says = x.says; data_is = x.is; there = x.there }

@@ -1,4 +1,4 @@
-use Rattle.std.proofs.Common.{◌≡◌, ◌+◌, ◌-◌, true, false, [], length, take, drop, Ok, sym, refl, ap, ◌∙◌, subst}
+use Rattle.std.proofs.Common.{◌+◌, ◌-◌, true, take, drop, Ok, sym, ◌∙◌, subst}
 use Rattle.std.proofs.lemmas.Result.{err_from_is_err_and}
 use Rattle.model.specs.Looks.{Fieldeds}
 use Rattle.model.specs.Looks.Spoilt.{tag, fields}
@@ -8,46 +8,46 @@ use Rattle.walk.proofs.Joining.{recorded_broke, recorded_went}
 use Rattle.walk.proofs.Recording.{renumbered}
 use Rattle.walk.proofs.look.read_draft.Goals as goal
 
-pub returns-then-not-good-tag : goal.returns-then-not-good-tag
-returns-then-not-good-tag g c = tag c.if-not-good-tag.ensures
+pub returns-then-not-good_tag : goal.returns-then-not-good_tag
+returns-then-not-good_tag g c = tag c.if-not-good_tag.ensures
 
-pub returns-in-err-read : goal.returns-in-err-read
-returns-in-err-read g c =
+pub returns-in_err-read : goal.returns-in_err-read
+returns-in_err-read g c =
     let m = g.B.Book.means c.args.book.now in
     let st = g.B.Book.stands c.args.book.now in
     let b = c.args.tail.now in
-    let p = err_from_is_err_and c.from-residual.result c.from-residual.ensures.1 in
-    let f = recorded_broke c.read-fields.result c.args.n c.in-err-read.field-0.0 (sym c.at_record.ensures ∙ c.in-err-read.was) in
-    let y = subst (Fieldeds m st true 0 (take 6 b) (c.args.at + 11) (take (11 + c.args.k - 11) (drop 11 b))) f.1 c.read-fields.ensures in
+    let p = err_from_is_err_and c.from_residual.result c.from_residual.ensures.1 in
+    let f = recorded_broke c.read_fields.result c.args.n c.in_err-read.field-0.0 (sym c.at_record.ensures ∙ c.in_err-read.was) in
+    let y = subst (Fieldeds m st true 0 (take 6 b) (c.args.at + 11) (take (11 + c.args.k - 11) (drop 11 b))) f.1 c.read_fields.ensures in
     let x = rw (cut 11 c.args.k) at y in
-    rw (p.1, p.2, f.2) (fields c.if-not-good-tag.ensures x.0 (renumbered c.args.n x.1))
+    rw (p.1, p.2, f.2) (fields c.if-not-good_tag.ensures x.0 (renumbered c.args.n x.1))
 
 pub returns-in-Some : goal.returns-in-Some
 returns-in-Some g c =
     let m = g.B.Book.means c.args.book.now in
     let st = g.B.Book.stands c.args.book.now in
     let b = c.args.tail.now in
-    let o = c.in-ok-read.read in
-    let y = subst (Fieldeds m st true 0 (take 6 b) (c.args.at + 11) (take (11 + c.args.k - 11) (drop 11 b))) (recorded_went c.read-fields.result c.args.n o (sym c.at_record.ensures ∙ c.in-ok-read.was)) c.read-fields.ensures in
+    let o = c.in_ok-read.read in
+    let y = subst (Fieldeds m st true 0 (take 6 b) (c.args.at + 11) (take (11 + c.args.k - 11) (drop 11 b))) (recorded_went c.read_fields.result c.args.n o (sym c.at_record.ensures ∙ c.in_ok-read.was)) c.read_fields.ensures in
     let x = subst (λ j. Fieldeds m st true 0 (take 6 b) (c.args.at + 11) (take j (drop 11 b)) (Ok o)) (cut 11 c.args.k) y in
-    draws_known m st b c.args.k (c.args.at + 11) 0 c.if-not-good-tag.ensures c.requires.long o c.in-Some.r c.in-Some.is x
+    draws_known m st b c.args.k (c.args.at + 11) 0 c.if-not-good_tag.ensures c.requires.long o c.in-Some.r c.in-Some.is x
 
 pub returns-then-k-eq0 : goal.returns-then-k-eq0
 returns-then-k-eq0 g c =
     let m = g.B.Book.means c.args.book.now in
     let st = g.B.Book.stands c.args.book.now in
     let b = c.args.tail.now in
-    let o = c.in-ok-read.read in
-    let y = subst (Fieldeds m st true 0 (take 6 b) (c.args.at + 11) (take (11 + c.args.k - 11) (drop 11 b))) (recorded_went c.read-fields.result c.args.n o (sym c.at_record.ensures ∙ c.in-ok-read.was)) c.read-fields.ensures in
+    let o = c.in_ok-read.read in
+    let y = subst (Fieldeds m st true 0 (take 6 b) (c.args.at + 11) (take (11 + c.args.k - 11) (drop 11 b))) (recorded_went c.read_fields.result c.args.n o (sym c.at_record.ensures ∙ c.in_ok-read.was)) c.read_fields.ensures in
     let x = subst (λ j. Fieldeds m st true 0 (take 6 b) (c.args.at + 11) (take j (drop 11 b)) (Ok o)) (cut 11 c.args.k) y in
-    draws_empty m st b c.args.k (c.args.at + 11) 0 c.if-not-good-tag.ensures c.requires.long o c.in-default.not-Some c.if-k-eq0.true x
+    draws_empty m st b c.args.k (c.args.at + 11) 0 c.if-not-good_tag.ensures c.requires.long o c.in_default.not-Some c.if-k-eq0.true x
 
 pub returns : goal.returns
 returns g c =
     let m = g.B.Book.means c.args.book.now in
     let st = g.B.Book.stands c.args.book.now in
     let b = c.args.tail.now in
-    let o = c.in-ok-read.read in
-    let y = subst (Fieldeds m st true 0 (take 6 b) (c.args.at + 11) (take (11 + c.args.k - 11) (drop 11 b))) (recorded_went c.read-fields.result c.args.n o (sym c.at_record.ensures ∙ c.in-ok-read.was)) c.read-fields.ensures in
+    let o = c.in_ok-read.read in
+    let y = subst (Fieldeds m st true 0 (take 6 b) (c.args.at + 11) (take (11 + c.args.k - 11) (drop 11 b))) (recorded_went c.read_fields.result c.args.n o (sym c.at_record.ensures ∙ c.in_ok-read.was)) c.read_fields.ensures in
     let x = subst (λ j. Fieldeds m st true 0 (take 6 b) (c.args.at + 11) (take j (drop 11 b)) (Ok o)) (cut 11 c.args.k) y in
-    draws_lump m st b c.args.k (c.args.at + 11) 0 c.if-not-good-tag.ensures c.requires.long o c.in-default.not-Some c.if-k-eq0.false x
+    draws_lump m st b c.args.k (c.args.at + 11) 0 c.if-not-good_tag.ensures c.requires.long o c.in_default.not-Some c.if-k-eq0.false x

@@ -1,4 +1,4 @@
-use Rattle.std.proofs.Common.{◌≡◌, ℕ, List, [], ◌∷◌, length, set, sym, refl, ap, ◌∙◌, arith}
+use Rattle.std.proofs.Common.{◌≡◌, ℕ, List, [], ◌∷◌, length, set, refl, ap, arith}
 use Rattle.codes.specs.Letters.{letter_is, letter_from}
 use Rattle.codes.proofs.letter.LetterKind.spell.Goals as goal
 
@@ -9,7 +9,7 @@ put (c ∷ d ∷ s) v e = let bad : ⊥ = omega arith in elim bad [ ]
 
 pub returns-then-out-ne1 : goal.returns-then-out-ne1
 returns-then-out-ne1 c = (
-  c.no-reading.ensures,
+  c.no_reading.ensures,
   refl,
   λ s l e.
       let p = letter_is s c.args.value.now e in

@@ -3,4 +3,4 @@ use Rattle.kinds.proofs.Named.{names_checked}
 use Rattle.codes.proofs.turns.TurnsKind.check.Goals as goal
 
 pub returns : goal.returns
-returns c = names_checked (names_with c.args.self.now.low c.args.self.now.high c.two-digits-number.result c.two-digits-number.ensures) c.args.s.now c.check.result c.check.ensures
+returns c = names_checked (names_with c.args.self.now.low c.args.self.now.high c.two_digits-number.result c.two_digits-number.ensures) c.args.s.now c.check.result c.check.ensures

@@ -2,5 +2,5 @@ use Rattle.std.proofs.Common.{sym, refl}
 use Rattle.dates.specs.Dates.{made_if}
 use Rattle.dates.proofs.date.Date.new.Goals as goal
 
-pub returns-then-is-day : goal.returns-then-is-day
-returns-then-is-day c = sym (made_if c.args.year c.args.month c.args.day _ refl _)
+pub returns-then-is_day : goal.returns-then-is_day
+returns-then-is_day c = sym (made_if c.args.year c.args.month c.args.day _ refl _)

@@ -10,4 +10,4 @@ returns-in-Some c = strips_spelled date_strips calendar_date c.args.value.now c.
 
 pub returns-in-None : goal.returns-in-None
 unfolding stamped_date
-returns-in-None c = (c.no-reading.ensures, refl, λ s l e. strips_none date_strips calendar_date s c.args.value.now (sym c.in-None.ensures) e)
+returns-in-None c = (c.no_reading.ensures, refl, λ s l e. strips_none date_strips calendar_date s c.args.value.now (sym c.in-None.ensures) e)

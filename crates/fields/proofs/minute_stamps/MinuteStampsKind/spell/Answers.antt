@@ -10,4 +10,4 @@ returns-in-Some c = strips_spelled minute_strips minute c.args.value.now c.in-So
 
 pub returns-in-None : goal.returns-in-None
 unfolding stamped_minute
-returns-in-None c = (c.no-reading.ensures, refl, λ s l e. strips_none minute_strips minute s c.args.value.now (sym c.in-None.ensures) e)
+returns-in-None c = (c.no_reading.ensures, refl, λ s l e. strips_none minute_strips minute s c.args.value.now (sym c.in-None.ensures) e)

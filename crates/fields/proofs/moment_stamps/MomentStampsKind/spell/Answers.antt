@@ -10,4 +10,4 @@ returns-in-Some c = strips_spelled moment_strips moment c.args.value.now c.in-So
 
 pub returns-in-None : goal.returns-in-None
 unfolding stamped_moment
-returns-in-None c = (c.no-reading.ensures, refl, λ s l e. strips_none moment_strips moment s c.args.value.now (sym c.in-None.ensures) e)
+returns-in-None c = (c.no_reading.ensures, refl, λ s l e. strips_none moment_strips moment s c.args.value.now (sym c.in-None.ensures) e)

@@ -4,7 +4,7 @@ use Rattle.issued.proofs.Places.{asks_here, asks_done}
 use Rattle.issued.proofs.book.IssuedBookBook.next.Goals as goal
 
 pub returns-then-mark-lt-ROWS : goal.returns-then-mark-lt-ROWS
-returns-then-mark-lt-ROWS c = λ tag p h. ap₂ (λ n r. Field n r.width) c.number-at.ensures c.at.ensures ∙ sym (asks_here tag p c.args.mark.now h c.if-mark-lt-ROWS.true)
+returns-then-mark-lt-ROWS c = λ tag p h. ap₂ (λ n r. Field n r.width) c.number_at.ensures c.at.ensures ∙ sym (asks_here tag p c.args.mark.now h c.if-mark-lt-ROWS.true)
 
 pub returns-else-mark-lt-ROWS : goal.returns-else-mark-lt-ROWS
 returns-else-mark-lt-ROWS c = λ tag p h. sym (asks_done tag p c.args.mark.now h c.if-mark-lt-ROWS.false)

@@ -9,5 +9,5 @@ returns-then-mark-ge-ROWS c = λ tag p h a. no_done tag p c.args.mark.now h c.if
 
 pub returns : goal.returns
 returns c = λ tag p h a.
-    let same = ap₂ slot c.slot-at.ensures.0 c.slot-at.ensures.1 ∙ sym (reads_here tag p c.args.mark.now h c.if-mark-ge-ROWS.false) in
+    let same = ap₂ slot c.slot_at.ensures.0 c.slot_at.ensures.1 ∙ sym (reads_here tag p c.args.mark.now h c.if-mark-ge-ROWS.false) in
     subst (λ f. Spelled f (seen c.args.value.now) c.args.out.now c.spell.new.out c.spell.result) same c.spell.ensures

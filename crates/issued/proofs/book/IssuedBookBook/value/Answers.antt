@@ -9,5 +9,5 @@ returns-then-mark-ge-ROWS c = λ tag p h a. no_done tag p c.args.mark.now h c.if
 
 pub returns : goal.returns
 returns c = λ tag p h a.
-    let same = ap₂ slot c.slot-at.ensures.0 c.slot-at.ensures.1 ∙ sym (reads_here tag p c.args.mark.now h c.if-mark-ge-ROWS.false) in
+    let same = ap₂ slot c.slot_at.ensures.0 c.slot_at.ensures.1 ∙ sym (reads_here tag p c.args.mark.now h c.if-mark-ge-ROWS.false) in
     subst (λ f. Told seen f c.args.spelling.now c.read.result) same c.read.ensures

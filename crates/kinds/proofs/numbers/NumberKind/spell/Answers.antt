@@ -5,7 +5,7 @@ use Rattle.kinds.proofs.numbers.NumberKind.spell.Goals.{then-out-self-via-then-o
 
 pub returns-then-out-self : goal.returns-then-out-self
 returns-then-out-self c = (
-  c.no-reading.ensures,
+  c.no_reading.ensures,
   refl,
   λ s l e.
       let k = c.args.self.now in
@@ -22,4 +22,4 @@ returns-then-out-self c = (
 pub returns : goal.returns
 returns c =
     let k = c.args.self.now in
-    number_spelled k.width k.low k.high c.args.value.now _ (c.put-digits.ensures ∙ rw c.if-out-self.false refl) (omega arith) (omega arith) (omega arith)
+    number_spelled k.width k.low k.high c.args.value.now _ (c.put_digits.ensures ∙ rw c.if-out-self.false refl) (omega arith) (omega arith) (omega arith)

@@ -10,4 +10,4 @@ returns-in-Ok g c =
 pub returns : goal.returns
 returns g c =
     let k = c.args.self.now in
-    second_checked (g.K.Kind.wide k.first) (g.K.Kind.reads k.first) (g.L.Kind.reads k.second) c.args.s.now (c.if-s-width.false ∙ c.width.ensures) c.in-default.ensures.0 c.check-2.result c.check-2.ensures
+    second_checked (g.K.Kind.wide k.first) (g.K.Kind.reads k.first) (g.L.Kind.reads k.second) c.args.s.now (c.if-s-width.false ∙ c.width.ensures) c.in_default.ensures.0 c.check-2.result c.check-2.ensures

@@ -7,7 +7,7 @@ use Rattle.kinds.proofs.points.PointKind.spell.Goals.{then-out-at-via-then-out-a
 pub returns-then-out-at : goal.returns-then-out-at
 returns-then-out-at c =
     let k = c.args.self.now in (
-      c.no-reading.ensures,
+      c.no_reading.ensures,
       refl,
       λ s l e.
           let p = point_is k.whole k.places k.low k.high s c.args.value.now e in
@@ -20,19 +20,19 @@ returns-then-out-at c =
           ],
     )
 
-pub nonzero-div-n : goal.nonzero-div-n
-nonzero-div-n c = rw c.pow-power.ensures (ten_pos c.args.self.now.places)
+pub nonzero_div-n : goal.nonzero_div-n
+nonzero_div-n c = rw c.pow-power.ensures (ten_pos c.args.self.now.places)
 
-pub nonzero-div-n-2 : goal.nonzero-div-n-2
-nonzero-div-n-2 c = rw c.pow-power.ensures (ten_pos c.args.self.now.places)
+pub nonzero_div-n-2 : goal.nonzero_div-n-2
+nonzero_div-n-2 c = rw c.pow-power.ensures (ten_pos c.args.self.now.places)
 
-pub nonzero-rem-n : goal.nonzero-rem-n
-nonzero-rem-n c = rw c.pow-power.ensures (ten_pos c.args.self.now.places)
+pub nonzero_rem-n : goal.nonzero_rem-n
+nonzero_rem-n c = rw c.pow-power.ensures (ten_pos c.args.self.now.places)
 
 pub returns-then-n-power : goal.returns-then-n-power
 returns-then-n-power c =
     let k = c.args.self.now in (
-      c.no-reading-then-n-power.ensures,
+      c.no_reading-then-n-power.ensures,
       refl,
       λ s l e.
           let u = point_under k.whole k.places k.low k.high s c.args.value.now e in
@@ -40,8 +40,8 @@ returns-then-n-power c =
           omega arith,
     )
 
-pub put-point-requires : goal.put-point-requires
-put-point-requires c =
+pub put_point-requires : goal.put_point-requires
+put_point-requires c =
     let k = c.args.self.now in
     let q : length c.args.out.now - (k.whole + 1) ≡ k.places = omega arith in
     record {
@@ -56,5 +56,5 @@ returns c =
     let k = c.args.self.now in
     let v = c.args.value.now in
     let q : length c.args.out.now - (k.whole + 1) ≡ k.places = omega arith in
-    point_spelled k.whole k.places k.low k.high v.digits c.put-point.new.out (rw (q, c.pow-power.ensures) at c.put-point.ensures) (rw (c.pow.ensures, c.pow-power.ensures) at c.if-n-power.false) c.if-n-self.false c.if-n-self-2.false
+    point_spelled k.whole k.places k.low k.high v.digits c.put_point.new.out (rw (q, c.pow-power.ensures) at c.put_point.ensures) (rw (c.pow.ensures, c.pow-power.ensures) at c.if-n-power.false) c.if-n-self.false c.if-n-self-2.false
     ∙ ap (λ p. Some (record { digits = v.digits; places = p })) (sym c.if-value-self.false)

@@ -2,9 +2,9 @@ use Rattle.std.proofs.Common.{rules}
 use Rattle.kinds.specs.Texts.{empty}
 use Rattle.kinds.proofs.spaces.SpacesKind.check.Goals as goal
 
-pub returns-then-each-within : goal.returns-then-each-within
+pub returns-then-each_within : goal.returns-then-each_within
 unfolding empty
-returns-then-each-within c = (tt, search rules)
+returns-then-each_within c = (tt, search rules)
 
 pub returns-else-s-self : goal.returns-else-s-self
 unfolding empty

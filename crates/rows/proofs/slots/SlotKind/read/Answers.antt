@@ -6,9 +6,9 @@ pub returns-then-self : goal.returns-then-self
 unfolding slot
 returns-then-self c = search rules
 
-pub returns-in-err-read : goal.returns-in-err-read
+pub returns-in_err-read : goal.returns-in_err-read
 unfolding slot
-returns-in-err-read c = search rules
+returns-in_err-read c = search rules
 
 pub returns : goal.returns
 unfolding slot
