@@ -1,6 +1,6 @@
 #![tactic(auto)]
 
-pub mod book;
+pub mod issued_book;
 pub mod mark;
 pub mod names;
 mod table;

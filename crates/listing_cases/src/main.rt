@@ -1,7 +1,7 @@
 #![tactic(auto)]
 
 // Prints the listings of the areas in data/ and of two made here, each under its name.
-use issued::book::IssuedBook;
+use issued::issued_book::IssuedBook;
 use report::{LIMIT, listed};
 use std::alloc::{AllocError, Global};
 use std::{fs, io};
