@@ -44,9 +44,9 @@ Holds (unread tag name sensor s) = reading tag name sensor s ≡ None
 Holds (absent tag name sensor s) = reading tag name sensor s ≡ Some None
 Holds (differ tag name sensor s t) = (v w : Seen) × (reading tag name sensor s ≡ Some v) × (reading tag name sensor t ≡ Some w) × (v ≢ w)
 
-abbrev pub All : List Page → Type 0
-All [] = Unit {0}
-All (p ∷ ps) = Holds p × All ps
+abbrev pub AllHold : List Page → Type 0
+AllHold [] = Unit {0}
+AllHold (p ∷ ps) = Holds p × AllHold ps
 
 abbrev pub hello : List ℕ
 hello = codes "HELLO 00003abc"

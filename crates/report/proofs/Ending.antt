@@ -12,7 +12,7 @@ use Rattle.model.specs.Records.{Record, TableRow}
 use Rattle.refusal.specs.declared.fault.Cause.TheVariants.{TooLong}
 use Rattle.refusal.specs.declared.fault.Fault.{Fault}
 use Rattle.refusal.specs.Faults.{fault}
-use Rattle.std.specs.List.{AllByRecursion as All}
+use Rattle.std.specs.List.{AllByRecursion}
 use Rattle.report.specs.declared.halt.Halt.{Halt}
 use Rattle.report.specs.declared.halt.Halt.TheVariants.{Refused, NoMemory}
 use Rattle.report.specs.Entries.{Laid, Placed, Opens, entries_lines}
@@ -31,8 +31,8 @@ halted m bytes NoMemory x = tt
 -- what the list of all fields says of the bytes
 pub record Ready (bytes : List ℕ) (l : List Record) (es : List Entry) : Type 0 where
   pub laid : Laid bytes l
-  pub placed : All (Placed bytes) es
-  pub opens : All (Opens l) es
+  pub placed : AllByRecursion (Placed bytes) es
+  pub opens : AllByRecursion (Opens l) es
   pub lines : entries_lines l es ≡ all_lines 0 0 l
 
 pub ready : {V : Type 0} {m : Meaning V} (laws : Laws m) (bytes : List ℕ) (a : Area) {L : Ledger} {t : List (TableRow V)} (es : List Entry) → length bytes ≤ most → a ≡ opened (length bytes) → Stands m bytes a L t → es ≡ all_entries L t → Ready bytes L.records es
@@ -41,8 +41,8 @@ ready {m = m} laws bytes a {L} {t} es h e s i =
     let k = all_stand bytes r.bytes r.whole in
     record {
       laid = (all_sound laws r.whole, r.bytes);
-      placed = subst (All (Placed bytes)) (sym i) k.0;
-      opens = subst (All (Opens L.records)) (sym i) k.1;
+      placed = subst (AllByRecursion (Placed bytes)) (sym i) k.0;
+      opens = subst (AllByRecursion (Opens L.records)) (sym i) k.1;
       lines = ap (entries_lines L.records) i ∙ all_listed laws r.whole;
     }
 

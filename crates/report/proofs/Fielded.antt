@@ -1,6 +1,6 @@
 -- The lines of a list of all fields are those of the records.
 use Rattle.std.proofs.Common.{◌≡◌, ℕ, suc, ◌+◌, ◌-◌, ◌<◌, ◌≤◌, List, [], ◌∷◌, ◌++◌, length, get_or, take, sym, refl, ap, ◌∙◌, ap₂, append_assoc, arith, length-append}
-use Rattle.std.specs.List.{AllByRecursion as All}
+use Rattle.std.specs.List.{AllByRecursion}
 use Rattle.std.proofs.ByRecursion.{All-append, All-weaker}
 use Rattle.area.specs.declared.answer.Entry.{Entry}
 use Rattle.area.specs.Finding.{names}
@@ -81,7 +81,7 @@ record Lies (n k at end : ℕ) (e : Entry) : Type 0 where
   high : e.place ≤ end
   first : e.field ≡ k → e.place ≡ at
 
-fields_lie : (n k at : ℕ) (ns : List ℕ) (ss : List (List ℕ)) → All (Lies n k at (at + length (joined ss))) (entries_of n k at ns ss)
+fields_lie : (n k at : ℕ) (ns : List ℕ) (ss : List (List ℕ)) → AllByRecursion (Lies n k at (at + length (joined ss))) (entries_of n k at ns ss)
 fields_lie n k at [] ss = tt
 fields_lie n k at (x ∷ ns) [] = tt
 fields_lie n k at (x ∷ ns) (s ∷ ss) =
@@ -103,7 +103,7 @@ record Found (l : List Record) (at n : ℕ) (e : Entry) : Type 0 where
   high : e.place ≤ at + length (written l)
   opens : e.field ≡ 0 → e.place ≡ at + length (written (take nth l)) + 11
 
-all_found : {V : Type 0} {m : Meaning V} (at n : ℕ) {l : List Record} {t : List (TableRow V)} → AllWhole m l t → All (Found l at n) (listing at n l (rows t))
+all_found : {V : Type 0} {m : Meaning V} (at n : ℕ) {l : List Record} {t : List (TableRow V)} → AllWhole m l t → AllByRecursion (Found l at n) (listing at n l (rows t))
 all_found at n none = tt
 all_found at n (more {e = e} {r = r} {l = l} {t = t} w ws) =
     let d = joined e.spellings in
@@ -124,7 +124,7 @@ all_found at n (more {e = e} {r = r} {l = l} {t = t} w ws) =
     record { nth = suc h.nth; there = omega arith; of = omega arith; low = omega arith; high = omega arith; opens = λ i. let f = h.opens i in omega arith }) _ (all_found (at + (11 + length d)) (n + 1) ws))
 
 -- each entry is placed, and opens its record if it is the first
-pub all_stand : {V : Type 0} {m : Meaning V} (bytes : List ℕ) {l : List Record} {t : List (TableRow V)} → bytes ≡ written l → AllWhole m l t → All (Placed bytes) (listing 0 0 l (rows t)) × All (Opens l) (listing 0 0 l (rows t))
+pub all_stand : {V : Type 0} {m : Meaning V} (bytes : List ℕ) {l : List Record} {t : List (TableRow V)} → bytes ≡ written l → AllWhole m l t → AllByRecursion (Placed bytes) (listing 0 0 l (rows t)) × AllByRecursion (Opens l) (listing 0 0 l (rows t))
 all_stand bytes {l} e w =
     let z = ap length e in (
       All-weaker _ _ (λ x h. let p = h.low in let q = h.high in (omega arith, omega arith)) _ (all_found 0 0 w),

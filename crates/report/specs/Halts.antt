@@ -1,7 +1,7 @@
 -- What the parts of a listing come to.
 use Rattle.std.specs.Prelude.{◌≡◌, ℕ, List, ◌++◌, Ok, Err, vec_items, string_bytes, Result, Vec, String}
 use Rattle.std.specs.declared.alloc.Global.{Global}
-use Rattle.std.specs.List.{AllByRecursion as All}
+use Rattle.std.specs.List.{AllByRecursion}
 use Rattle.area.specs.declared.answer.Entry.{Entry}
 use Rattle.area.specs.Listing.{all_entries}
 use Rattle.book.specs.Meaning.{Meaning}
@@ -40,4 +40,4 @@ Grown before lines after r = Unrefused r (λ _. after ≡ before ++ lines)
 
 -- the lines of all entries
 abbrev pub Printed : List ℕ → List Entry → Result (String Global) Halt → Type 0
-Printed bytes es r = (l : List Record) → Laid bytes l → All (Opens l) es → Unrefused r (λ s. string_bytes s ≡ entries_lines l es)
+Printed bytes es r = (l : List Record) → Laid bytes l → AllByRecursion (Opens l) es → Unrefused r (λ s. string_bytes s ≡ entries_lines l es)

@@ -3,7 +3,7 @@
 // The listing of an area: a line for each record and each field, and an end line, or the one line of a refusal.
 ghost use Rattle.std.specs.Prelude.{◌≡◌, ◌≤◌, List, length, IfOk, string_bytes};
 ghost use Rattle.lines.specs.Lines.{refusal_line};
-ghost use Rattle.std.specs.List.{AllByRecursion as All};
+ghost use Rattle.std.specs.List.{AllByRecursion};
 ghost use Rattle.model.specs.Records.{Record};
 ghost use Rattle.report.specs.Entries.{Laid, Placed, Opens, head_line, entry_lines};
 ghost use Rattle.report.specs.Halts.{Tabled, Enlisted, Printed, Grown};
@@ -86,7 +86,7 @@ fn all_fields<'a, B: Book<'a>>(
 // The lines of all fields, and of the records that they open.
 fn field_text(heap: Global, bytes: &[u8], fields: &[Entry]) -> Result<String, Halt>
     requires few { length bytes.now ≤ 99996 }
-    requires placed { All (Placed bytes.now) fields.now }
+    requires placed { AllByRecursion (Placed bytes.now) fields.now }
     ensures { Printed bytes.now fields.now result }
 {
     let mut text = String::new(heap);
