@@ -1,5 +1,5 @@
 -- Filling entries, field by field and record by record.
-use Rattle.std.proofs.Common.{◌≡◌, ℕ, zero, suc, ◌+◌, ◌<◌, ◌≤◌, List, [], ◌∷◌, ◌++◌, length, get_or, take, drop, set, sym, refl, ap, ◌∙◌, subst, ap₂, append_assoc, append-nil, arith, length-append, length-set, take-append-drop, drop-drop, drop-set-lt}
+use Rattle.std.proofs.Common.{◌≡◌, ℕ, zero, suc, ◌+◌, ◌<◌, ◌≤◌, List, [], ◌∷◌, ◌++◌, length, get_or, take, drop, set, sym, refl, ap, ◌∙◌, subst, ap₂, append_assoc, arith, length-append, length-set, take-append-drop, drop-drop, drop-set-lt}
 use Rattle.std.proofs.lemmas.List.{take_more, take_more_set, take_all}
 use Rattle.book.specs.Meaning.{Meaning, Laws}
 use Rattle.model.specs.Records.{Record, TableField, Fields, Begun, joined}
@@ -50,11 +50,6 @@ pub record Sofar (old now done : List Entry) (from i : ℕ) : Type 0 where
   pub back : drop (from + i) now ≡ drop (from + i) old
   pub long : length now ≡ length old
 
-pub sofar_none : (old done : List Entry) (from : ℕ) → Sofar old old done from 0
-sofar_none old done from =
-    let z : from + 0 ≡ from = omega arith in
-    record { front = ap (λ i. take i old) z ∙ sym (append-nil (take from old)); back = refl; long = refl }
-
 pub sofar_more : {old now done : List Entry} {from i : ℕ} (x : Entry) → Sofar old now done from i → from + i < length now → i < length done → get_or done i nowhere ≡ x → Sofar old (set now (from + i) x) done from (i + 1)
 sofar_more {old} {now} {done} {from} {i} x s h j e =
     let a : from + (i + 1) ≡ from + i + 1 = omega arith in
@@ -80,18 +75,6 @@ sofar_part {old} {now} n base from i q ns ss e p s h w =
     let x : get_or (entries_of n 0 base ns ss) i nowhere ≡ entry n i q.name (base + q.start) q.width =
     entries_at n 0 base ns ss i nowhere e t ∙ ap₂ (λ (a b : ℕ). entry n a b (base + length (joined (take i ss))) (length (get_or ss i []))) z (sym p.name_is) ∙ ap₂ (λ (a b : ℕ). entry n i q.name (base + a) b) (sym p.start_is) (sym p.width_is) in
     subst (λ k. Sofar old k (entries_of n 0 base ns ss) from (i + 1)) (sym w) (sofar_more (entry n i q.name (base + q.start) q.width) s (omega arith) (omega arith) x)
-
--- one field, of all the data
-pub sofar_lump : (old : List Entry) {new : List Entry} (n base from w : ℕ) (ns : List ℕ) (ss : List (List ℕ)) → length ns ≡ length ss → length ss ≡ 1 → get_or ns 0 0 ≡ 0 → length (get_or ss 0 []) ≡ w → from + length ss ≤ length old → new ≡ set old from (entry n 0 0 base w) → new ≡ take from old ++ (entries_of n 0 base ns ss ++ drop (from + length ss) old)
-sofar_lump old n base from w ns ss e one nm wd h put =
-    let q : Part = record { name = 0; start = 0; width = w } in
-    let p : Parted ss ns 0 q = record { there = omega arith; name_is = sym nm; start_is = refl; width_is = sym wd } in
-    let a : from ≡ from + 0 = omega arith in
-    let b : base ≡ base + 0 = omega arith in
-    let s = sofar_part n base from 0 q ns ss e p (sofar_none old (entries_of n 0 base ns ss) from) h (put ∙ ap₂ (λ (i j : ℕ). set old i (entry n 0 0 j w)) a b) in
-    let l = entries_length n 0 base ns ss e in
-    let k : length ss ≡ 0 + 1 = omega arith in
-    sofar_all s (l ∙ k) ∙ ap (λ i. take from old ++ (entries_of n 0 base ns ss ++ drop (from + i) old)) (sym k)
 
 pub total_append : (l k : List Record) → field_total (l ++ k) ≡ field_total l + field_total k
 total_append [] k = omega arith

@@ -48,9 +48,6 @@ pub record Sofar {V : Type 0} (old now : List Entry) (l : List Record) (t : List
   pub counted : filled ≡ length (listing 0 0 (take n l) (rows (take n t)))
   pub is : now ≡ listing 0 0 (take n l) (rows (take n t)) ++ drop filled old
 
-pub sofar_none : {V : Type 0} (old : List Entry) (l : List Record) (t : List (TableRow V)) → Sofar old old l t 0 0
-sofar_none old l t = record { counted = refl; is = refl }
-
 module _ {V : Type 0} {m : Meaning V} {old now : List Entry} {l : List Record} {t : List (TableRow V)} {n filled : ℕ} (w : AllWhole m l t) (s : Sofar old now l t n filled) where
   counts : filled ≡ field_total (take n l)
   counts = s.counted ∙ listing_length 0 0 (all_take n w)

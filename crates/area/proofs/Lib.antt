@@ -6,3 +6,5 @@ pub mod Tiled
 pub mod Filled
 pub mod Rises
 pub mod Lying
+pub mod Going
+pub mod Parts

@@ -1,5 +1,5 @@
 -- Walking over records that are known to be sound.
-use Rattle.std.proofs.Common.{◌≡◌, ℕ, zero, suc, ◌+◌, ◌<◌, ◌≤◌, List, [], ◌∷◌, ◌++◌, length, get_or, take, drop, sym, refl, ap, ◌∙◌, subst, inl, inr, append_assoc, arith, length-append, length-drop, drop-drop, take_at, drop_at}
+use Rattle.std.proofs.Common.{◌≡◌, ℕ, zero, suc, ◌+◌, ◌<◌, ◌≤◌, List, [], ◌∷◌, ◌++◌, length, get_or, take, drop, sym, refl, ap, ◌∙◌, subst, inl, inr, append_assoc, arith, length-append, drop-drop, take_at, drop_at}
 use Rattle.std.proofs.lemmas.Bool.{cases_lt}
 use Rattle.std.proofs.lemmas.List.{take_more, drop_all, take_all}
 use Rattle.refusal.specs.declared.fault.Fault.{Fault}
@@ -98,7 +98,3 @@ module _ (bytes : List ℕ) (l : List Record) (i at : ℕ) (s : Sound l) (e : by
       let v = length-append r [] in
       let y = ap length f.data_is in
       (omega arith, omega arith)
-
--- a header and its data lie within the bytes
-pub reach : (bytes : List ℕ) (at : ℕ) (h : Header) → at ≤ length bytes → Headed (drop at bytes) h → at + (11 + length h.data.now) ≤ length bytes
-reach bytes at h k x = let a = x.long in let b = x.there in let c = length-drop at bytes in omega arith

@@ -2,8 +2,7 @@
 use Rattle.std.proofs.Common.{◌≡◌, ℕ, zero, suc, ◌+◌, ◌-◌, ◌<◌, ◌≤◌, true, false, List, [], ◌∷◌, ◌++◌, length, get_or, take, drop, Some, None, Ok, Err, Option, sym, refl, ap, ◌∙◌, subst, inl, inr, append_assoc, append-nil, arith, length-append, take-append-drop, take_at, drop_at}
 use Rattle.std.proofs.lemmas.Bool.{cases_lt}
 use Rattle.std.proofs.lemmas.List.{take_more, drop_more, take_all}
-use Rattle.book.specs.Meaning.{Meaning}
-use Rattle.book.specs.declared.answer.Answer.TheVariants.{Done, Field}
+use Rattle.book.specs.Meaning.{Meaning, field}
 use Rattle.model.specs.Records.{TableField, Fields, Begun, Full, joined}
 use Rattle.model.specs.Records.Fields.{none, next}
 use Rattle.model.specs.Records.Begun.{known, bare, lump}
@@ -15,7 +14,7 @@ use Rattle.model.specs.Looks.{Fieldeds}
 use Rattle.model.proofs.Unique.{begun_one}
 use Rattle.model.proofs.Apart.{record_inside}
 use Rattle.model.specs.Walks.{Fails}
-use Rattle.model.proofs.Lists.{never, both, halt, clash, same_width, same_name, joined_append, joined_push}
+use Rattle.model.proofs.Lists.{never, both, clash, same_width, same_name, joined_append, joined_push}
 use Rattle.area.specs.Finding.{Holds, Parted, names}
 
 -- spellings before k, spelling k, spellings behind it
@@ -29,14 +28,14 @@ joined_more ss k h = ap joined (take_more ss k [] h) ∙ joined_push (take k ss)
 
 -- what is asked for behind the first i fields
 pub record Next {V : Type 0} (m : Meaning V) (tag p : List ℕ) (ss : List (List ℕ)) (ns : List ℕ) (i : ℕ) : Type 0 where
-  pub asks : m.asks tag (p ++ joined (take i ss)) ≡ Field (get_or ns i 0) (length (get_or ss i []))
+  pub asks : m.asks tag (p ++ joined (take i ss)) ≡ Some (field (get_or ns i 0) (length (get_or ss i [])))
   pub value : V
   pub reads : m.reads tag (p ++ joined (take i ss)) (get_or ss i []) ≡ Some value
 
 pub fields_at : {V : Type 0} {m : Meaning V} {tag : List ℕ} {p : List ℕ} {ss : List (List ℕ)} {fs : List (TableField V)} (i : ℕ) → i < length ss → Fields m tag p ss fs → Next m tag p ss (names fs) i
 fields_at i h none = let bad : ⊥ = omega arith in never bad
 fields_at {m = m} {tag = tag} {p = p} zero h (next {s = s} {n = n} {v = v} a r f) = record {
-  asks = subst (λ x. m.asks tag x ≡ Field n (length s)) (sym (append-nil p)) a;
+  asks = subst (λ x. m.asks tag x ≡ Some (field n (length s))) (sym (append-nil p)) a;
   value = v;
   reads = subst (λ x. m.reads tag x s ≡ Some v) (sym (append-nil p)) r;
 }
@@ -44,7 +43,7 @@ fields_at {m = m} {tag = tag} {p = p} (suc i) h (next {s = s} {ss = ss} {fs = fs
     let x = fields_at i (omega arith) f in
     let e : p ++ (s ++ joined (take i ss)) ≡ (p ++ s) ++ joined (take i ss) = sym (append_assoc p s (joined (take i ss))) in
     record {
-      asks = subst (λ y. m.asks tag y ≡ Field (get_or (names fs) i 0) (length (get_or ss i []))) (sym e) x.asks;
+      asks = subst (λ y. m.asks tag y ≡ Some (field (get_or (names fs) i 0) (length (get_or ss i [])))) (sym e) x.asks;
       value = x.value;
       reads = subst (λ y. m.reads tag y (get_or ss i []) ≡ Some x.value) (sym e) x.reads;
     }
@@ -67,11 +66,11 @@ module _ {V : Type 0} {m : Meaning V} {tag d : List ℕ} {ss : List (List ℕ)} 
       go (bare i) = never (both kn i)
       go (lump i h) = never (both kn i)
 
-  known_done : m.knows tag ≡ true → m.asks tag d ≡ Done
+  known_done : m.knows tag ≡ true → m.asks tag d ≡ None
   known_done kn = go w.full
     where
-      go : Full m tag ss → m.asks tag d ≡ Done
-      go (asked i a) = subst (λ x. m.asks tag x ≡ Done) w.bytes a
+      go : Full m tag ss → m.asks tag d ≡ None
+      go (asked i a) = subst (λ x. m.asks tag x ≡ None) w.bytes a
       go (filled i h) = never (both kn i)
 
   -- behind the first i fields, at this place
@@ -82,19 +81,19 @@ module _ {V : Type 0} {m : Meaning V} {tag d : List ℕ} {ss : List (List ℕ)} 
     all_passed : length ss ≤ i → take at d ≡ d
     all_passed l = take_all at d (let q : take i ss ≡ ss = take_all i ss l in let z = ap length w.bytes in let y = p ∙ ap (λ k. length (joined k)) q in omega arith)
 
-    pub asked_at : i < length ss → m.asks tag (take at d) ≡ Field (get_or (names fs) i 0) (length (get_or ss i []))
-    asked_at l = subst (λ x. m.asks tag x ≡ Field (get_or (names fs) i 0) (length (get_or ss i []))) (sym (passed l)) (fields_at i l (known_fields kn)).asks
+    pub asked_at : i < length ss → m.asks tag (take at d) ≡ Some (field (get_or (names fs) i 0) (length (get_or ss i [])))
+    asked_at l = subst (λ x. m.asks tag x ≡ Some (field (get_or (names fs) i 0) (length (get_or ss i [])))) (sym (passed l)) (fields_at i l (known_fields kn)).asks
 
     -- the book asks for a field there exactly if there is one more
-    pub one_there : {n u : ℕ} → m.asks tag (take at d) ≡ Field n u → i < length ss
+    pub one_there : {n u : ℕ} → m.asks tag (take at d) ≡ Some (field n u) → i < length ss
     one_there {n} {u} a =
         elim (cases_lt i (length ss)) [
           | inl l ↦ l
-          | inr l ↦ never (halt (known_done kn) (subst (λ x. m.asks tag x ≡ Field n u) (all_passed l) a))
+          | inr l ↦ never (clash (subst (λ x. m.asks tag x ≡ Some (field n u)) (all_passed l) a) (known_done kn))
         ]
 
-    pub none_there : m.asks tag (take at d) ≡ Done → length ss ≤ i
-    none_there a = elim (cases_lt i (length ss)) [ inl l ↦ never (halt a (asked_at l)) | inr l ↦ l ]
+    pub none_there : m.asks tag (take at d) ≡ None → length ss ≤ i
+    none_there a = elim (cases_lt i (length ss)) [ inl l ↦ never (clash (asked_at l) a) | inr l ↦ l ]
 
     spelling_at : i < length ss → take (length (get_or ss i [])) (drop at d) ≡ get_or ss i []
     spelling_at l =
@@ -114,12 +113,12 @@ module _ {V : Type 0} {m : Meaning V} {tag d : List ℕ} {ss : List (List ℕ)} 
         let s : take u (drop at d) ≡ get_or ss i [] = ap (λ k. take k (drop at d)) e ∙ spelling_at l in
         clash x.reads (subst (λ y. m.reads tag y (get_or ss i []) ≡ None) (passed l) (subst (λ y. m.reads tag (take at d) y ≡ None) s r))
 
-    pub part_at : (n u : ℕ) → m.asks tag (take at d) ≡ Field n u → Parted ss (names fs) i (record { name = n; start = at; width = u })
+    pub part_at : (n u : ℕ) → m.asks tag (take at d) ≡ Some (field n u) → Parted ss (names fs) i (record { number = i; name = n; start = at; width = u })
     part_at n u a =
         let l = one_there a in
         record { there = l; name_is = same_name a (asked_at l); start_is = p; width_is = same_width a (asked_at l) }
 
-    pub next_at : (n u : ℕ) → m.asks tag (take at d) ≡ Field n u → (i + 1 ≤ length ss) × (at + u ≡ length (joined (take (i + 1) ss)))
+    pub next_at : (n u : ℕ) → m.asks tag (take at d) ≡ Some (field n u) → (i + 1 ≤ length ss) × (at + u ≡ length (joined (take (i + 1) ss)))
     next_at n u a =
         let l = one_there a in
         let e = same_width a (asked_at l) in
@@ -133,9 +132,6 @@ module _ {V M : Type 0} {m : Meaning V} (laws : Laws m) (stands : List ℕ → L
       let x = subst (λ i. Fieldeds m stands false 0 tag 0 d (Ok i)) e f in
       let z = begun_one laws w.begun (known x.known x.are) (w.bytes ∙ sym x.bytes) in
       sym x.count ∙ ap length (sym z.0)
-
-  pub count_unknown : (o : Option (Read M)) → o ≡ None → Fieldeds m stands false 0 tag 0 d (Ok o) → 1 ≡ length ss
-  count_unknown o e f = let kn = subst (λ i. Fieldeds m stands false 0 tag 0 d (Ok i)) e f in sym (unknown_field w 0 kn).0
 
   pub count_never : (f : Fault) → Fieldeds m stands false 0 tag 0 d (Err f) → ⊥
   count_never f x = record_inside laws x.0 (subst (λ i. Fails m false 0 tag 0 [] i 0 f) (sym w.bytes) x.1) w.begun w.full

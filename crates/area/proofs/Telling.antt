@@ -1,5 +1,5 @@
 -- From a look that found a ledger to what the reading calls say of it.
-use Rattle.std.proofs.Common.{◌≡◌, ℕ, zero, suc, ◌+◌, ◌-◌, ◌<◌, ◌≤◌, List, [], ◌++◌, map, length, get_or, take, drop, Some, None, sym, refl, ap, ◌∙◌, subst, ap₂, inl, inr, append_assoc, arith, length-append, take-append-drop, length-take-le, take_at, drop_at}
+use Rattle.std.proofs.Common.{◌≡◌, ℕ, zero, suc, ◌+◌, ◌-◌, ◌<◌, ◌≤◌, List, [], ◌++◌, map, length, get_or, take, drop, Some, None, sym, refl, ap, ◌∙◌, subst, ap₂, inl, inr, append_assoc, arith, length-append, take-append-drop, take_at, drop_at}
 use Rattle.book.specs.Meaning.{Meaning, Laws}
 use Rattle.refusal.specs.declared.fault.Cause.TheVariants.{NoSuch}
 use Rattle.refusal.specs.Faults.{fault}
@@ -24,9 +24,7 @@ pub lends : {V M : Type 0} {m : Meaning V} {stands : List ℕ → List ℕ → M
 lends {buf = buf} {a = a} l =
     let z : a.end - 0 ≡ a.end = omega arith in
     let e : take (a.end - 0) buf ≡ take a.end buf = ap (λ i. take i buf) z in
-    let f = l.stood.fits in
-    let k = length-take-le a.end buf (omega arith) in
-    record { ledger = l.ledger; table = l.table; stood = l.stood; is = e ∙ l.stood.bytes; there = e; few = let q = ap length e in omega arith }
+    record { ledger = l.ledger; table = l.table; stood = l.stood; is = e ∙ l.stood.bytes; there = e }
 
 pub all_sound : {V : Type 0} {m : Meaning V} (laws : Laws m) {l : List Record} {t : List (TableRow V)} → AllWhole m l t → Sound l
 all_sound laws no_rows = tt

@@ -1,6 +1,8 @@
 -- Entries that lie one behind another.
-use Rattle.std.proofs.Common.{◌≡◌, ℕ, ◌+◌, ◌-◌, ◌<◌, ◌≤◌, List, [], ◌∷◌, ◌++◌, length, get_or, drop, refl, subst, arith, length-append}
+use Rattle.std.proofs.Common.{◌≡◌, ℕ, ◌+◌, ◌-◌, ◌<◌, ◌≤◌, List, [], ◌∷◌, ◌++◌, length, get_or, drop, inl, inr, sym, refl, subst, arith, length-append, ◌==◌}
+use Rattle.std.proofs.lemmas.Bool.{cases_eq, eq-eqb, ne_eqb}
 use Rattle.std.proofs.lemmas.List.{drop_more, drop_all}
+use Rattle.walk.specs.Heads.{Tells}
 use Rattle.model.specs.Records.{joined}
 use Rattle.model.proofs.Lists.{never}
 use Rattle.area.specs.declared.answer.Entry.{Entry}
@@ -13,9 +15,6 @@ pub record Going (es : List Entry) (start end i at : ℕ) : Type 0 where
   pub high : at ≤ end
   pub so : Tiling (drop i es) at end → Tiling es start end
   pub back : Tiling es start end → Tiling (drop i es) at end
-
-pub going_none : (es : List Entry) (start end : ℕ) → start ≤ end → Going es start end 0 start
-going_none es start end h = record { low = omega arith; high = h; so = λ x. x; back = λ x. x }
 
 pub tiling_low : (es : List Entry) (start end : ℕ) → Tiling es start end → start ≤ end
 tiling_low [] start end t = omega arith
@@ -45,6 +44,14 @@ module _ {es : List Entry} {start end i at : ℕ} (g : Going es start end i at) 
 
   pub going_all : length es ≤ i → (at ≡ end → Tiling es start end) × (Tiling es start end → at ≡ end)
   going_all h = let n = drop_all i es h in (λ e. g.so (rw n e), λ t. rw n at (g.back t))
+
+-- a test for equality that decides P
+pub tells_equal : {a b : ℕ} {P : Type 0} → (a ≡ b → P) × (P → a ≡ b) → Tells (a == b) P
+tells_equal {a} {b} {P} f =
+    elim (cases_eq a b) [
+      | inl e ↦ subst (λ t. Tells t P) (sym (eq-eqb a b e)) (f.0 e)
+      | inr n ↦ subst (λ t. Tells t P) (sym (ne_eqb a b n)) (λ t. n (f.1 t))
+    ]
 
 -- the entries of a record tile its data
 pub entries_tile : (n k at : ℕ) (ns : List ℕ) (ss : List (List ℕ)) → length ns ≡ length ss → Tiling (entries_of n k at ns ss) at (at + length (joined ss))

@@ -1,6 +1,5 @@
 -- A record found by its number, a field by its number.
 use Rattle.std.specs.Prelude.{◌≡◌, ℕ, ◌<◌, ◌≤◌, List, [], ◌∷◌, map, length, get_or, take, Some, None, Ok, Err, Option, Result, slice_index, slice_index_or}
-use Rattle.std.specs.Borrow.{Bor}
 use Rattle.book.specs.Meaning.{Meaning}
 use Rattle.refusal.specs.declared.fault.Fault.{Fault}
 use Rattle.model.specs.declared.area.Area.{Area}
@@ -9,6 +8,8 @@ use Rattle.model.specs.Records.{Record, TableRow, TableField, GoodTag, Begun, Fu
 use Rattle.model.specs.Rules.{nothing}
 use Rattle.walk.specs.declared.header.Header.{Header}
 use Rattle.area.specs.declared.part.Part.{Part}
+use Rattle.area.specs.declared.records.RecordBytes.{RecordBytes}
+use Rattle.area.specs.declared.records.Spot.{Spot}
 
 -- records whose tags and lengths a header can say
 abbrev pub Sound : List Record → Type 0
@@ -22,9 +23,9 @@ pub record Located (l : List Record) (n : ℕ) (place : ℕ) (h : Header) : Type
   pub tag_is : h.tag ≡ (get_or l n nothing).tag
   pub data_is : h.data.now ≡ joined (get_or l n nothing).spellings
 
-abbrev pub Found : List Record → ℕ → Option (ℕ × Header) → Type 0
+abbrev pub Found : List Record → ℕ → Option Spot → Type 0
 Found l n None = length l ≤ n
-Found l n (Some x) = Located l n x.0 x.1
+Found l n (Some x) = Located l n x.place x.head
 
 -- the name numbers of a record's fields, in order
 abbrev pub names : {V : Type 0} → List (TableField V) → List ℕ
@@ -54,8 +55,7 @@ pub record Lent {V : Type 0} (m : Meaning V) (buf : List ℕ) (a : Area) (bytes 
   pub stood : Stands m buf a ledger table
   pub is : bytes ≡ written ledger.records
   pub there : bytes ≡ take a.end buf
-  pub few : length bytes ≤ 99996
 
-abbrev pub Lends : {V : Type 0} → Meaning V → List ℕ → Area → Result (Bor (List ℕ)) Fault → Type 0
-Lends m buf a (Ok bytes) = Lent m buf a bytes.now
+abbrev pub Lends : {V : Type 0} → Meaning V → List ℕ → Area → Result RecordBytes Fault → Type 0
+Lends m buf a (Ok bytes) = Lent m buf a bytes.all.now
 Lends m buf a (Err f) = LookRefuses m buf a f

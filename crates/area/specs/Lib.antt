@@ -3,3 +3,5 @@ pub mod Reading
 pub mod Listing
 pub mod Spans
 pub mod Which
+pub mod Going
+pub mod Parts

@@ -6,17 +6,13 @@ use Rattle.refusal.specs.Faults.{fault}
 use Rattle.model.specs.Records.{Record, TableRow, joined, written}
 use Rattle.model.specs.Ledgers.{Ledger}
 use Rattle.model.specs.Rules.{gives, Refusal, nth, begins, field_at}
-use Rattle.area.specs.declared.holding.Holder.{Holder}
+use Rattle.area.specs.declared.records.Spot.{Spot}
 use Rattle.area.specs.Finding.{Located}
 
--- byte p lies in the header, or in the data, of a record that begins at this place and has w bytes of data
-abbrev pub Lies : Bool → ℕ → ℕ → ℕ → Type 0
-Lies true place w p = (place ≤ p) × (p < place + 11)
-Lies false place w p = (place + 11 ≤ p) × (p < place + 11 + w)
-
-abbrev pub RecordHeld : List Record → ℕ → Option Holder → Type 0
+-- byte p lies in the header or the data of the record
+abbrev pub RecordHeld : List Record → ℕ → Option Spot → Type 0
 RecordHeld l p None = length (written l) ≤ p
-RecordHeld l p (Some h) = Located l h.number h.place h.head × Lies h.in_header h.place (length h.head.data.now) p
+RecordHeld l p (Some x) = Located l x.number x.place x.head × (x.place ≤ p) × (p < x.place + (11 + length x.head.data.now))
 
 -- byte p of the data lies in spelling k
 abbrev pub FieldHeld : List (List ℕ) → ℕ → Option ℕ → Type 0

@@ -18,7 +18,7 @@ pub struct FieldInfo<'b> {
 }
 
 // One field in a list of all: its record, field and name number, where it begins, and its width.
-#[derive(Clone, Copy, PartialEq, Eq, Debug)]
+#[derive(Clone, Copy, PartialEq, Eq, Debug, Default)]
 pub struct Entry {
     pub record: usize,
     pub field: usize,

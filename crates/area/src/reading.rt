@@ -8,10 +8,14 @@ use crate::answer::{Entry, FieldInfo, RecordInfo};
 use crate::filling::{count_all, fill_all};
 use crate::finding::{count_fields, find_field, find_record};
 use crate::holding::{holding_field, holding_record};
+use crate::records::RecordBytes;
 use book::Book;
 use model::area::Area;
 use refusal::fault::{Cause, Fault};
 use walk::look::look;
+
+// The calls take the buffer beside the area's value, since the buffer is the caller's and is lent to each of them.
+// Where there is nothing to find they use let .. else: with ok_or the proof no longer sees what the search promises.
 
 // Checks the area that takes up the first len bytes of the buffer.
 pub fn open<'a, B: Book<'a>>(book: &B, buf: &[u8], len: usize) -> Result<Area, Fault>
@@ -34,12 +38,16 @@ pub fn count<'a, B: Book<'a>>(book: &B, buf: &[u8], area: Area) -> Result<usize,
 }
 
 // Looks at the area and lends the bytes of its finished records.
-fn finished<'a, 'b, B: Book<'a>>(book: &B, buf: &'b [u8], area: Area) -> Result<&'b [u8], Fault>
+fn finished<'a, 'b, B: Book<'a>>(
+    book: &B,
+    buf: &'b [u8],
+    area: Area,
+) -> Result<RecordBytes<'b>, Fault>
     ensures { Lends (B.Book.means book.now) buf.now area result }
 {
     look(book, buf, area)?;
     let end = area.end;
-    Ok(&buf[0..end])
+    Ok(RecordBytes { all: &buf[0..end] })
 }
 
 // Record n: its place, data length, tag and field count.
@@ -52,12 +60,13 @@ pub fn record<'a, B: Book<'a>>(
     ensures { Answers (B.Book.means book.now) buf.now area (record_rules n) (RecordTold n) result }
 {
     let bytes = finished(book, buf, area)?;
-    let Some((place, head)) = find_record(bytes, n) else {
+    let Some(spot) = find_record(bytes, n) else {
         return Err(Fault::new(Cause::NoSuch, 0));
     };
-    let fields = count_fields(book, &head.tag, head.data);
+    let head = spot.head;
+    let fields = count_fields(book, &head);
     Ok(RecordInfo {
-        place,
+        place: spot.place,
         length: head.data.len(),
         tag: head.tag,
         fields,
@@ -75,16 +84,17 @@ pub fn field<'a, 'b, B: Book<'a>>(
     ensures { Answers (B.Book.means book.now) buf.now area (field_rules n k) (FieldTold buf.now n k) result }
 {
     let bytes = finished(book, buf, area)?;
-    let Some((place, head)) = find_record(bytes, n) else {
+    let Some(spot) = find_record(bytes, n) else {
         return Err(Fault::new(Cause::NoSuch, 0));
     };
-    let Some(part) = find_field(book, &head.tag, head.data, k) else {
+    let head = spot.head;
+    let Some(part) = find_field(book, &head, k) else {
         return Err(Fault::new(Cause::NoSuch, 0));
     };
     let start = part.start;
     let width = part.width;
     Ok(FieldInfo {
-        place: place + 11 + start,
+        place: spot.place + 11 + start,
         name: part.name,
         bytes: &head.data[start..start + width],
     })
@@ -117,15 +127,15 @@ pub fn which<'a, B: Book<'a>>(
     ensures { Answers (B.Book.means book.now) buf.now area (which_rules byte) (WhichTold byte) result }
 {
     let bytes = finished(book, buf, area)?;
-    let Some(held) = holding_record(bytes, byte) else {
+    let Some(spot) = holding_record(bytes, byte) else {
         return Err(Fault::new(Cause::NoSuch, 0));
     };
-    let n = held.number;
-    if held.in_header {
+    let n = spot.number;
+    let into = byte - spot.place;
+    if into < 11 {
         return Ok((n, 0, true));
     }
-    let head = held.head;
-    let Some(k) = holding_field(book, &head.tag, head.data, byte - held.place - 11) else {
+    let Some(k) = holding_field(book, &spot.head, into - 11) else {
         return Err(Fault::new(Cause::NoSuch, 0));
     };
     Ok((n, k, false))

@@ -16,27 +16,6 @@ pub trait Spanned {
         ensures { result ≡ wide self.now };
 }
 
-// A run of bytes.
-#[derive(Clone, Copy, PartialEq, Eq, Debug)]
-pub struct Span {
-    pub start: usize,
-    pub width: usize,
-}
-
-impl Spanned for Span {
-    ghost from = { λ s. s.start };
-
-    ghost wide = { λ s. s.width };
-
-    fn start(&self) -> usize {
-        self.start
-    }
-
-    fn width(&self) -> usize {
-        self.width
-    }
-}
-
 impl Spanned for Entry {
     ghost from = { λ e. e.place };
 
@@ -57,6 +36,7 @@ pub fn search<S: Spanned>(parts: &[S], n: usize) -> Option<usize>
         (Rising S.Spanned.from S.Spanned.wide parts.now → (k : ℕ) (d : S) → k < length parts.now → Held S.Spanned.from S.Spanned.wide n (slice_index_or parts.now k d) → ⊥)
         (λ i. (i < length parts.now) × ((d : S) → Held S.Spanned.from S.Spanned.wide n (slice_index_or parts.now i d))) }
 {
+    // No library method halves a slice of a trait's entries by two bounds.
     let mut lo = 0;
     let mut hi = parts.len();
     while lo < hi {

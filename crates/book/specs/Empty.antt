@@ -1,11 +1,10 @@
 -- The book that knows no tag.
 use Rattle.std.specs.Prelude.{◌≡◌, ℕ, false, List, None}
 use Rattle.std.proofs.Common.{arith}
-use Rattle.book.specs.declared.answer.Answer.TheVariants.{Done}
 use Rattle.book.specs.Meaning.{Meaning, Laws}
 
 abbrev pub nothing : Meaning (Unit {0})
-nothing = record { knows = λ tag. false; asks = λ tag p. Done; reads = λ tag p s. None }
+nothing = record { knows = λ tag. false; asks = λ tag p. None; reads = λ tag p s. None }
 
 -- there is no record for a mark to stand in
 abbrev pub none_stand : List ℕ → List ℕ → Unit {0} → Type 0

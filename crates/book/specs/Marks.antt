@@ -3,21 +3,20 @@ use Rattle.std.specs.Prelude.{◌≡◌, ℕ, true, false, List, [], ◌++◌, l
 use Rattle.refusal.specs.declared.fault.Fault.{Fault}
 use Rattle.refusal.specs.Faults.{unread}
 use Rattle.kind.specs.Kinds.{Told, Spelled}
-use Rattle.book.specs.Meaning.{Meaning}
-use Rattle.book.specs.declared.answer.Answer.{Answer}
-use Rattle.book.specs.declared.answer.Answer.TheVariants.{Field}
+use Rattle.book.specs.Meaning.{Meaning, field}
+use Rattle.book.specs.declared.field.Field.{Field}
 
 module _ {V M : Type 0} (m : Meaning V) (stands : List ℕ → List ℕ → M → Type 0) where
   abbrev pub Started : List ℕ → Option M → Type 0
   Started tag None = m.knows tag ≡ false
   Started tag (Some mark) = (m.knows tag ≡ true) × stands tag [] mark
 
-  abbrev pub Asked : M → Answer → Type 0
+  abbrev pub Asked : M → Option Field → Type 0
   Asked mark a = (tag p : List ℕ) → stands tag p mark → a ≡ m.asks tag p
 
   -- behind p the book asks for a field as wide as s
   abbrev pub Fits : List ℕ → List ℕ → List ℕ → Type 0
-  Fits tag p s = (n : ℕ) × (m.asks tag p ≡ Field n (length s))
+  Fits tag p s = (n : ℕ) × (m.asks tag p ≡ Some (field n (length s)))
 
   abbrev pub Passes : List ℕ → List ℕ → List ℕ → M → M → Result (Unit {0}) Fault → Type 0
   Passes tag p s old new (Ok u) = (v : V) × (m.reads tag p s ≡ Some v) × stands tag (p ++ s) new

@@ -3,7 +3,7 @@ ghost use Rattle.book.specs.Empty.{nothing, none_stand, empty_laws};
 ghost use Rattle.book.specs.Marks.{Started, Asked, Passed, Valued, Spelling};
 
 use crate::Book;
-use crate::answer::Answer;
+use crate::field::Field;
 use refusal::fault::{Cause, Fault};
 
 // The book that knows no tag.
@@ -28,13 +28,13 @@ impl<'a> Book<'a> for EmptyBook {
     fn start(&self, tag: &[u8]) -> Option<()>
         ensures { Started nothing none_stand tag.now result }
     {
-        None
+        None // whatever the tag
     }
 
-    fn next(&self, mark: &()) -> Answer
+    fn next(&self, mark: &()) -> Option<Field>
         ensures { Asked nothing none_stand mark.now result }
     {
-        Answer::Done
+        None
     }
 
     fn pass(&self, mark: &mut (), spelling: &[u8]) -> Result<(), Fault>

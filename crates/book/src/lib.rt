@@ -4,10 +4,10 @@ ghost use Rattle.std.specs.Prelude.{◌≡◌, ℕ, List};
 ghost use Rattle.book.specs.Meaning.{Meaning, Laws};
 ghost use Rattle.book.specs.Marks.{Started, Asked, Passed, Valued, Spelling};
 
-pub mod answer;
 pub mod empty;
+pub mod field;
 
-use answer::Answer;
+use field::Field;
 use refusal::fault::Fault;
 
 // A book says which tags it knows, and for a known tag and the bytes already passed which field comes next and what it reads.
@@ -33,8 +33,8 @@ pub trait Book<'a> {
     fn start(&self, tag: &[u8]) -> Option<Self::Mark>
         ensures { Started (means self.now) (stands self.now) tag.now result };
 
-    // What comes at the mark.
-    fn next(&self, mark: &Self::Mark) -> Answer
+    // The field at the mark, or none where the record is done.
+    fn next(&self, mark: &Self::Mark) -> Option<Field>
         ensures { Asked (means self.now) (stands self.now) mark.now result };
 
     // Moves the mark past a spelling that reads; any other gets refusal 5 and moves nothing.

@@ -11,7 +11,7 @@ use Rattle.kinds.specs.Texts.{word, word_laws}
 use Rattle.codes.specs.declared.project.Project.{Project}
 use Rattle.codes.specs.declared.mission.Mission.{Mission}
 use Rattle.codes.specs.declared.mission.Mission.TheVariants.{Numbered, Unknown}
-use Rattle.kinds.specs.Naming.{Names, named, names_laws}
+use Rattle.kind.specs.Naming.{Names, named, names_laws}
 use Rattle.codes.specs.Projects.{project, project_laws}
 
 -- the word UNKN
@@ -49,5 +49,8 @@ pub names : Names made parts in_parts mission
 unfolding mission
 names = record { same = λ s. refl; there = there; back = back }
 
+pub parts_laws : Laws 4 in_parts
+parts_laws = either_laws (seq_laws project_laws (number_laws 2 0 99 (omega arith) (omega arith))) (word_laws unknown (omega arith) (omega arith))
+
 pub mission_laws : Laws 4 mission
-mission_laws = names_laws names (either_laws (seq_laws project_laws (number_laws 2 0 99 (omega arith) (omega arith))) (word_laws unknown (omega arith) (omega arith)))
+mission_laws = names_laws names parts_laws

@@ -10,7 +10,7 @@ use Rattle.kinds.specs.Texts.{word, word_laws}
 use Rattle.codes.specs.declared.project.Project.{Project}
 use Rattle.codes.specs.declared.project.Project.TheVariants.{Letters, Unknown}
 use Rattle.codes.specs.Letters.{letter, letter_laws}
-use Rattle.kinds.specs.Naming.{Names, named, names_laws}
+use Rattle.kind.specs.Naming.{Names, named, names_laws}
 
 -- the word U0
 abbrev pub nought : List ℕ
@@ -47,5 +47,8 @@ pub names : Names made parts in_parts project
 unfolding project
 names = record { same = λ s. refl; there = there; back = back }
 
+pub parts_laws : Laws 2 in_parts
+parts_laws = either_laws (seq_laws letter_laws letter_laws) (word_laws nought (omega arith) (omega arith))
+
 pub project_laws : Laws 2 project
-project_laws = names_laws names (either_laws (seq_laws letter_laws letter_laws) (word_laws nought (omega arith) (omega arith)))
+project_laws = names_laws names parts_laws

@@ -13,7 +13,7 @@ use Rattle.codes.specs.declared.replay.Mode.TheVariants.{G, P, T}
 use Rattle.codes.specs.declared.replay.Replay.{Replay}
 use Rattle.codes.specs.declared.replay.Replay.TheVariants.{Original, Again}
 use Rattle.kinds.specs.Listing.{Spelt, listed, listed_laws, apart_in}
-use Rattle.kinds.specs.Naming.{Names, named, names_laws}
+use Rattle.kind.specs.Naming.{Names, named, names_laws}
 
 abbrev pub letters : Mode → List ℕ
 letters G = 71 ∷ []
@@ -69,5 +69,8 @@ pub names : Names made parts in_parts replay
 unfolding replay
 names = record { same = λ s. refl; there = there; back = back }
 
+pub parts_laws : Laws 3 in_parts
+parts_laws = either_laws (word_laws zeros (omega arith) (omega arith)) (seq_laws (listed_laws spelt modes) (number_laws 2 1 99 (omega arith) (omega arith)))
+
 pub replay_laws : Laws 3 replay
-replay_laws = names_laws names (either_laws (word_laws zeros (omega arith) (omega arith)) (seq_laws (listed_laws spelt modes) (number_laws 2 1 99 (omega arith) (omega arith))))
+replay_laws = names_laws names parts_laws

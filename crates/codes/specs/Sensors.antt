@@ -14,7 +14,7 @@ use Rattle.codes.specs.declared.sensor.Format.TheVariants.{Frame, LineScan, Push
 use Rattle.codes.specs.declared.sensor.Sensor.{Sensor}
 use Rattle.codes.specs.declared.sensor.Sensor.TheVariants.{Radar, Optical}
 use Rattle.kinds.specs.Listing.{Spelt, listed, listed_laws, apart_in}
-use Rattle.kinds.specs.Naming.{Names, named, names_laws}
+use Rattle.kind.specs.Naming.{Names, named, names_laws}
 
 -- the two letters of each category
 abbrev pub category_letters : Category → List ℕ
@@ -119,8 +119,11 @@ pub names : Names made parts in_parts sensor
 unfolding sensor
 names = record { same = λ s. refl; there = there; back = back }
 
+pub parts_laws : Laws 4 in_parts
+parts_laws = either_laws (word_laws sar (omega arith) (omega arith)) (seq_laws (listed_laws category_spelt categories) (listed_laws format_spelt formats))
+
 pub sensor_laws : Laws 4 sensor
-sensor_laws = names_laws names (either_laws (word_laws sar (omega arith) (omega arith)) (seq_laws (listed_laws category_spelt categories) (listed_laws format_spelt formats)))
+sensor_laws = names_laws names parts_laws
 
 -- radar is told by its spelling alone
 pub sar_reads : sensor sar ≡ Some Radar

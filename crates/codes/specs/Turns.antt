@@ -11,7 +11,7 @@ use Rattle.kinds.specs.Numbers.{number, number_laws}
 use Rattle.codes.specs.declared.turn.Turn.{Turn}
 use Rattle.codes.specs.declared.turn.Turn.TheVariants.{Number, Lettered}
 use Rattle.codes.specs.Letters.{letter, letter_laws}
-use Rattle.kinds.specs.Naming.{Names, named, names_laws}
+use Rattle.kind.specs.Naming.{Names, named, names_laws}
 
 abbrev pub Parts : Type 0
 Parts = Either ℕ (Both ℕ ℕ)
@@ -64,5 +64,8 @@ names_with low high n x = record {
   back = back;
 }
 
+pub parts_laws : (low high : ℕ) → Laws 2 (in_parts low high)
+parts_laws low high = either_laws (number_laws 2 low high (omega arith) (omega arith)) (seq_laws letter_laws (number_laws 1 1 9 (omega arith) (omega arith)))
+
 pub turn_laws : (low high : ℕ) → Laws 2 (turn low high)
-turn_laws low high = names_laws (names low high) (either_laws (number_laws 2 low high (omega arith) (omega arith)) (seq_laws letter_laws (number_laws 1 1 9 (omega arith) (omega arith))))
+turn_laws low high = names_laws (names low high) (parts_laws low high)

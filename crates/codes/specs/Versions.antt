@@ -7,7 +7,7 @@ use Rattle.kinds.specs.Layers.{seq, seq_laws}
 use Rattle.kinds.specs.Numbers.{number, number_laws}
 use Rattle.kinds.specs.Texts.{word, word_laws}
 use Rattle.codes.specs.declared.version.Version.{Version}
-use Rattle.kinds.specs.Naming.{Names, named, names_laws}
+use Rattle.kind.specs.Naming.{Names, named, names_laws}
 
 -- a point
 abbrev pub dot : List ℕ
@@ -34,5 +34,8 @@ pub names : Names made parts in_parts version
 unfolding version
 names = record { same = λ s. refl; there = λ p. refl; back = λ v. refl }
 
+pub parts_laws : Laws 7 in_parts
+parts_laws = seq_laws (number_laws 4 0 9999 (omega arith) (omega arith)) (seq_laws (word_laws dot (omega arith) (omega arith)) (number_laws 2 0 99 (omega arith) (omega arith)))
+
 pub version_laws : Laws 7 version
-version_laws = names_laws names (seq_laws (number_laws 4 0 9999 (omega arith) (omega arith)) (seq_laws (word_laws dot (omega arith) (omega arith)) (number_laws 2 0 99 (omega arith) (omega arith))))
+version_laws = names_laws names parts_laws

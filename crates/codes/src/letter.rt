@@ -1,5 +1,4 @@
-ghost use Rattle.std.specs.Prelude.{◌≡◌, ℕ};
-ghost use Rattle.kind.specs.Kinds.{Told, Checked, Spelled};
+ghost use Rattle.std.specs.Prelude.{ℕ};
 ghost use Rattle.codes.specs.Letters.{letter, letter_laws};
 
 use kind::Kind;
@@ -9,16 +8,6 @@ use refusal::fault::Fault;
 // One capital letter A to Z.
 #[derive(Clone, Copy)]
 pub struct Letter;
-
-fn letter_in(s: &[u8]) -> Option<u8>
-    ensures { result ≡ letter s.now }
-{
-    if s.len() == 1 && s[0] >= b'A' && s[0] <= b'Z' {
-        Some(s[0])
-    } else {
-        None
-    }
-}
 
 impl<'a> Kind<'a> for Letter {
     type Value = u8;
@@ -33,38 +22,31 @@ impl<'a> Kind<'a> for Letter {
 
     ghost laws = { λ _. letter_laws };
 
-    fn width(&self) -> usize
-        ensures { result ≡ 1 }
-    {
+    fn width(&self) -> usize {
         1
     }
 
-    fn check(&self, s: &[u8]) -> Result<(), Fault>
-        ensures { Checked letter s.now result }
-    {
-        match letter_in(s) {
-            Some(_) => Ok(()),
-            None => Err(no_reading()),
-        }
-    }
-
-    fn read(&self, s: &'a [u8]) -> Result<u8, Fault>
-        ensures { Told (λ v. v) letter s.now result }
-    {
-        match letter_in(s) {
-            Some(c) => Ok(c),
-            None => Err(no_reading()),
-        }
-    }
-
-    fn spell(&self, value: &u8, out: &mut [u8]) -> Result<(), Fault>
-        ensures { Spelled letter value.now out.old out.new result }
-    {
-        let byte = *value;
-        if out.len() != 1 || byte < b'A' || byte > b'Z' {
-            return Err(no_reading());
-        }
-        out[0] = byte;
+    fn check(&self, s: &[u8]) -> Result<(), Fault> {
+        self.read(s)?;
         Ok(())
+    }
+
+    #[tactic(auto, unfolding(crate::specs::Letters::letter))]
+    fn read(&self, s: &'a [u8]) -> Result<u8, Fault> {
+        match s {
+            [c @ b'A'..=b'Z'] => Ok(*c),
+            _ => Err(no_reading()),
+        }
+    }
+
+    #[tactic(auto, using(crate::specs::Letters::letter_is), unfolding(crate::specs::Letters::letter))]
+    fn spell(&self, value: &u8, out: &mut [u8]) -> Result<(), Fault> {
+        match (out, *value) {
+            ([place], byte @ b'A'..=b'Z') => {
+                *place = byte;
+                Ok(())
+            }
+            _ => Err(no_reading()),
+        }
     }
 }

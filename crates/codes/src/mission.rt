@@ -1,6 +1,7 @@
 use crate::project::Project;
 
 // A mission's number in its project, where it is known.
+// No Option: a blank field is absent, and UNKN is a word of its own that is spelled.
 #[derive(Clone, Copy, PartialEq, Eq, Debug)]
 pub enum Mission {
     Numbered { project: Project, number: u64 },

@@ -1,4 +1,5 @@
 // Which project a mission belongs to.
+// No Option: a blank field is absent, and U0 is a word of its own that is spelled.
 #[derive(Clone, Copy, PartialEq, Eq, Debug)]
 pub enum Project {
     Letters { first: u8, second: u8 },

@@ -1,4 +1,5 @@
 // Whether an image was made or sent again.
+// No Option: a blank field is absent, and 000 is a word of its own that is spelled.
 #[derive(Clone, Copy, PartialEq, Eq, Debug)]
 pub enum Replay {
     // the word 000

@@ -1,4 +1,5 @@
 // What made an image.
+// No Option: radar is a sensor too.
 #[derive(Clone, Copy, PartialEq, Eq, Debug)]
 pub enum Sensor {
     // SAR and a space

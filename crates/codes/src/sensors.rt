@@ -1,14 +1,13 @@
-ghost use Rattle.std.specs.Prelude.{◌≡◌};
-ghost use Rattle.kind.specs.Kinds.{Told, Checked, Spelled};
+ghost use Rattle.std.specs.Prelude.{Some};
+ghost use Rattle.kind.specs.Compounds.{names_composed};
 ghost use Rattle.codes.specs.declared.sensor.Sensor.{Sensor};
-ghost use Rattle.codes.specs.Sensors.{category_letters, categories, category_spelt, format_letters, formats, format_spelt, made, parts, sensor, sensor_laws};
+ghost use Rattle.codes.specs.Sensors.{category_letters, categories, category_spelt, format_letters, formats, format_spelt, Parts, in_parts, made, parts, sensor, names, parts_laws};
 
 use crate::sensor::{Categories, Category, Format, Formats, Sensor, Sensors};
-use kind::Kind;
+use kind::compound::Compound;
 use kinds::layers::{Both, Either, OrElse, Then};
 use kinds::listed::{Codes, Listed};
 use kinds::word::Word;
-use refusal::fault::Fault;
 
 impl Listed for Categories {
     type Code = Category;
@@ -90,75 +89,58 @@ impl Listed for Formats {
     }
 }
 
-const PARTS: OrElse<Word, Then<Codes<Categories>, Codes<Formats>>> = OrElse {
-    first: Word { bytes: b"SAR " },
-    second: Then {
-        first: Codes { list: Categories },
-        second: Codes { list: Formats },
-    },
-};
+impl<'a> Compound<'a> for Sensors {
+    type Parts = OrElse<Word<'static>, Then<Codes<Categories>, Codes<Formats>>>;
 
-fn make(pieces: Either<(), Both<Category, Format>>) -> Sensor
-    ensures { result ≡ made pieces }
-{
-    match pieces {
-        Either::First(()) => Sensor::Radar,
-        Either::Second(Both { front, back }) => Sensor::Optical {
-            category: front,
-            format: back,
-        },
-    }
-}
-
-fn split(value: &Sensor) -> Either<(), Both<Category, Format>>
-    ensures { result ≡ parts value.now }
-{
-    match *value {
-        Sensor::Radar => Either::First(()),
-        Sensor::Optical { category, format } => Either::Second(Both {
-            front: category,
-            back: format,
-        }),
-    }
-}
-
-impl<'a> Kind<'a> for Sensors {
     type Value = Sensor;
 
     ghost Val = { Sensor };
 
     ghost view = { λ v. v };
 
+    ghost Pieces = { Parts };
+
+    ghost seen = { λ p. p };
+
+    ghost built = { λ p. Some (made p) };
+
+    ghost pieces_of = { parts };
+
     ghost wide = { λ _. 4 };
+
+    ghost in_pieces = { λ _. in_parts };
 
     ghost reads = { λ _. sensor };
 
-    ghost laws = { λ _. sensor_laws };
+    ghost composed = { λ _. names_composed names parts_laws };
 
-    fn width(&self) -> usize
-        ensures { result ≡ 4 }
-    {
-        4
-    }
-
-    fn check(&self, s: &[u8]) -> Result<(), Fault>
-        ensures { Checked sensor s.now result }
-    {
-        PARTS.check(s)
-    }
-
-    fn read(&self, s: &'a [u8]) -> Result<Sensor, Fault>
-        ensures { Told (λ v. v) sensor s.now result }
-    {
-        match PARTS.read(s) {
-            Ok(pieces) => Ok(make(pieces)),
-            Err(e) => Err(e),
+    fn parts(&self) -> OrElse<Word<'static>, Then<Codes<Categories>, Codes<Formats>>> {
+        OrElse {
+            first: Word { bytes: b"SAR " },
+            second: Then {
+                first: Codes { list: Categories },
+                second: Codes { list: Formats },
+            },
         }
     }
 
-    fn spell(&self, value: &Sensor, out: &mut [u8]) -> Result<(), Fault>
-        ensures { Spelled sensor value.now out.old out.new result }
-    {
-        PARTS.spell(&split(value), out)
+    fn build(&self, pieces: Either<(), Both<Category, Format>>) -> Option<Sensor> {
+        Some(match pieces {
+            Either::First(()) => Sensor::Radar,
+            Either::Second(Both { front, back }) => Sensor::Optical {
+                category: front,
+                format: back,
+            },
+        })
+    }
+
+    fn split(&self, value: &Sensor) -> Either<(), Both<Category, Format>> {
+        match *value {
+            Sensor::Radar => Either::First(()),
+            Sensor::Optical { category, format } => Either::Second(Both {
+                front: category,
+                back: format,
+            }),
+        }
     }
 }

@@ -7,10 +7,8 @@ pub enum Unit {
     Unknown,
 }
 
-// Feet or meters.
+// The units that a field may name.
 #[derive(Clone, Copy)]
-pub struct Lengths;
-
-// Feet, meters, microradians or unknown.
-#[derive(Clone, Copy)]
-pub struct Spacings;
+pub struct Units {
+    pub named: &'static [Unit],
+}

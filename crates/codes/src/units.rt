@@ -1,64 +1,58 @@
 ghost use Rattle.std.specs.Prelude.{◌≡◌};
 ghost use Rattle.codes.specs.Units.{letters, spelt, lengths, spacings};
 
-use crate::unit::{Lengths, Spacings, Unit};
-use kinds::listed::Listed;
+use crate::unit::{Unit, Units};
+use kinds::listed::{Codes, Listed};
 
-fn letter(unit: Unit) -> &'static [u8]
-    ensures { result.now ≡ letters unit }
+impl Listed for Units {
+    type Code = Unit;
+
+    ghost span = { 1 };
+
+    ghost letters = { letters };
+
+    ghost spelt = { spelt };
+
+    ghost every = { λ u. u.named.now };
+
+    fn span(&self) -> usize {
+        1
+    }
+
+    fn letters(&self, code: Unit) -> &'static [u8] {
+        match code {
+            Unit::Feet => b"f",
+            Unit::Meters => b"m",
+            Unit::Microradians => b"r",
+            Unit::Unknown => b"u",
+        }
+    }
+
+    fn every(&self) -> &[Unit] {
+        self.named
+    }
+}
+
+// Feet or meters.
+#[tactic(auto, unfolding(crate::specs::Units::lengths))]
+pub fn lengths() -> Codes<Units>
+    ensures { result.list.named.now ≡ lengths }
 {
-    match unit {
-        Unit::Feet => b"f",
-        Unit::Meters => b"m",
-        Unit::Microradians => b"r",
-        Unit::Unknown => b"u",
+    Codes {
+        list: Units {
+            named: &[Unit::Feet, Unit::Meters],
+        },
     }
 }
 
-impl Listed for Lengths {
-    type Code = Unit;
-
-    ghost span = { 1 };
-
-    ghost letters = { letters };
-
-    ghost spelt = { spelt };
-
-    ghost every = { λ _. lengths };
-
-    fn span(&self) -> usize {
-        1
-    }
-
-    fn letters(&self, code: Unit) -> &'static [u8] {
-        letter(code)
-    }
-
-    fn every(&self) -> &[Unit] {
-        &[Unit::Feet, Unit::Meters]
-    }
-}
-
-impl Listed for Spacings {
-    type Code = Unit;
-
-    ghost span = { 1 };
-
-    ghost letters = { letters };
-
-    ghost spelt = { spelt };
-
-    ghost every = { λ _. spacings };
-
-    fn span(&self) -> usize {
-        1
-    }
-
-    fn letters(&self, code: Unit) -> &'static [u8] {
-        letter(code)
-    }
-
-    fn every(&self) -> &[Unit] {
-        &[Unit::Feet, Unit::Meters, Unit::Microradians, Unit::Unknown]
+// Feet, meters, microradians or unknown.
+#[tactic(auto, unfolding(crate::specs::Units::spacings))]
+pub fn spacings() -> Codes<Units>
+    ensures { result.list.named.now ≡ spacings }
+{
+    Codes {
+        list: Units {
+            named: &[Unit::Feet, Unit::Meters, Unit::Microradians, Unit::Unknown],
+        },
     }
 }

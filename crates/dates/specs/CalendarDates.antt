@@ -12,7 +12,7 @@ use Rattle.dates.specs.declared.calendar.CalendarDate.{CalendarDate}
 use Rattle.dates.specs.declared.calendar.CalendarDate.TheVariants.{Day, Month}
 use Rattle.dates.specs.declared.date.Date.{Date}
 use Rattle.dates.specs.Dates.{date, date_laws}
-use Rattle.kinds.specs.Naming.{Names, named, names_laws}
+use Rattle.kind.specs.Naming.{Names, named, names_laws}
 
 -- the word 00
 abbrev pub nought : List ℕ
@@ -49,5 +49,8 @@ pub names : Names made parts in_parts calendar_date
 unfolding calendar_date
 names = record { same = λ s. refl; there = there; back = back }
 
+pub parts_laws : Laws 8 in_parts
+parts_laws = either_laws date_laws (seq_laws (number_laws 4 0 9999 (omega arith) (omega arith)) (seq_laws (number_laws 2 1 12 (omega arith) (omega arith)) (word_laws nought (omega arith) (omega arith))))
+
 pub calendar_date_laws : Laws 8 calendar_date
-calendar_date_laws = names_laws names (either_laws date_laws (seq_laws (number_laws 4 0 9999 (omega arith) (omega arith)) (seq_laws (number_laws 2 1 12 (omega arith) (omega arith)) (word_laws nought (omega arith) (omega arith)))))
+calendar_date_laws = names_laws names parts_laws

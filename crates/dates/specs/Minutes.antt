@@ -1,25 +1,20 @@
 -- A minute of a day, in 12 digits.
-use Rattle.std.specs.Prelude.{◌≡◌, ℕ, Bool, true, false, List, Some, None, Option, refl}
-use Rattle.std.proofs.Common.{ap, arith}
-use Rattle.std.proofs.Math.Bool.{Bool-set}
+use Rattle.std.specs.Prelude.{◌≡◌, ℕ, Bool, true, List, Option, refl}
+use Rattle.kind.specs.Compounds.{Composed, composed_laws}
 use Rattle.kind.specs.Kinds.{Laws}
+use Rattle.kind.specs.Naming.{built, Builds}
 use Rattle.kinds.specs.declared.layers.Both.{Both}
-use Rattle.kinds.specs.Bytes.{never, some_is}
 use Rattle.kinds.specs.Layers.{seq, seq_laws}
-use Rattle.kinds.specs.Numbers.{number, number_laws}
+use Rattle.kinds.specs.Numbers.{number}
 use Rattle.dates.specs.declared.date.Date.{Date}
 use Rattle.dates.specs.declared.minute.Minute.{Minute}
 use Rattle.dates.specs.Dates.{date, date_laws}
-use Rattle.dates.specs.Days.{is_time}
-use Rattle.kinds.specs.Naming.{built, Builds, builds_laws}
-
-abbrev pub minute_if : (d : Date) (h i : ℕ) (b : Bool) → is_time h i 0 ≡ b → Option Minute
-minute_if d h i true e = Some (record { date = d; hour = h; minute = i; ok = e })
-minute_if d h i false e = None
+use Rattle.dates.specs.Days.{is_time, is_minute_within}
+use Rattle.dates.specs.Kept.{given, given_builds, Kept, kept_by, all_kept, seq_kept, sixty_kept, sixty_laws, hour_kept, hour_laws, kept_composed}
 
 -- the minute of a date at a time of day, where there is such a time
 abbrev pub minute_of : Date → ℕ → ℕ → Option Minute
-minute_of d h i = minute_if d h i (is_time h i 0) refl
+minute_of d h i = given (is_time h i 0) (λ e. record { date = d; hour = h; minute = i; ok = e })
 
 abbrev pub Parts : Type 0
 Parts = Both Date (Both ℕ ℕ)
@@ -30,6 +25,13 @@ in_parts s = seq 8 4 date (seq 2 2 (number 2 0 99) (number 2 0 99)) s
 abbrev pub make : Parts → Option Minute
 make p = minute_of p.front p.back.front p.back.back
 
+-- whether there is a minute of these parts, and which
+abbrev pub there_is : Parts → Bool
+there_is p = is_time p.back.front p.back.back 0
+
+abbrev pub at : (p : Parts) → there_is p ≡ true → Minute
+at p e = record { date = p.front; hour = p.back.front; minute = p.back.back; ok = e }
+
 abbrev pub parts : Minute → Parts
 parts v = record { front = v.date; back = record { front = v.hour; back = v.minute } }
 
@@ -37,25 +39,19 @@ parts v = record { front = v.date; back = record { front = v.hour; back = v.minu
 unfoldable pub minute : List ℕ → Option Minute
 minute s = built make (in_parts s)
 
--- a minute is made of its parts
-pub made_if : (d : Date) (h i : ℕ) (b : Bool) (f : is_time h i 0 ≡ b) (e : is_time h i 0 ≡ true) → minute_if d h i b f ≡ Some (record { date = d; hour = h; minute = i; ok = e })
-made_if d h i true f e = ap (λ p. Some (record { date = d; hour = h; minute = i; ok = p })) (Bool-set _ _ f e)
-made_if d h i false f e = let z : ◌≡◌ {A = ℕ} 0 1 = cc in let bad : ⊥ = omega arith in elim bad [ ]
-
-of_if : (d : Date) (h i : ℕ) (b : Bool) (f : is_time h i 0 ≡ b) (v : Minute) → minute_if d h i b f ≡ Some v → record { front = d; back = record { front = h; back = i } } ≡ parts v
-of_if d h i true f v e = let h : record { date = d; hour = h; minute = i; ok = f } ≡ v = some_is e in ap parts h
-of_if d h i false f v e = never e
-
 pub builds : Builds make parts in_parts minute
 unfolding minute
-builds = record {
-  same = λ s. refl;
-  of = λ p v e. of_if p.front p.back.front p.back.back _ refl v e;
-  back = λ v. made_if v.date v.hour v.minute _ refl v.ok;
-}
+builds = given_builds there_is at (λ p e. refl) (λ v. v.ok) (λ v. refl) in_parts
 
-two_laws : Laws 2 (number 2 0 99)
-two_laws = number_laws 2 0 99 (omega arith) (omega arith)
+-- the parts of minutes that there are
+abbrev pub in_range : List ℕ → Option Parts
+in_range s = seq 8 4 date (seq 2 2 (number 2 0 23) (number 2 0 59)) s
+
+kept : Kept there_is in_parts in_range
+kept = kept_by (λ p. is_minute_within p.back.front p.back.back) (seq_kept (all_kept date) (seq_kept hour_kept sixty_kept 2 2) 8 4)
+
+pub composed : Composed 12 make parts in_range minute
+composed = kept_composed there_is at builds kept (seq_laws date_laws (seq_laws hour_laws sixty_laws))
 
 pub minute_laws : Laws 12 minute
-minute_laws = builds_laws builds (seq_laws date_laws (seq_laws two_laws two_laws))
+minute_laws = composed_laws composed

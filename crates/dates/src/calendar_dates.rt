@@ -1,100 +1,86 @@
-ghost use Rattle.std.specs.Prelude.{◌≡◌};
-ghost use Rattle.kind.specs.Kinds.{Told, Checked, Spelled};
+ghost use Rattle.std.specs.Prelude.{◌≡◌, Some, None, MatchOption};
+ghost use Rattle.kind.specs.Compounds.{names_composed};
 ghost use Rattle.dates.specs.declared.calendar.CalendarDate.{CalendarDate};
-ghost use Rattle.dates.specs.CalendarDates.{made, parts, calendar_date, calendar_date_laws};
+ghost use Rattle.dates.specs.CalendarDates.{Parts, in_parts, made, parts, calendar_date, names, parts_laws};
 
 use crate::calendar::{CalendarDate, CalendarDates};
 use crate::date::Date;
 use crate::date::dates::Dates;
-use kind::Kind;
+use kind::compound::{Built, Compound};
 use kinds::layers::{Both, Either, OrElse, Then};
 use kinds::number::Number;
 use kinds::word::Word;
-use refusal::fault::Fault;
 
-const PARTS: OrElse<Dates, Then<Number, Then<Number, Word>>> = OrElse {
-    first: Dates,
-    second: Then {
-        first: Number {
-            width: 4,
-            low: 0,
-            high: 9999,
-        },
-        second: Then {
-            first: Number {
-                width: 2,
-                low: 1,
-                high: 12,
-            },
-            second: Word { bytes: b"00" },
-        },
-    },
-};
+impl<'a> Compound<'a> for CalendarDates {
+    type Parts = OrElse<Built<'a, Dates>, Then<Number, Then<Number, Word<'static>>>>;
 
-fn make(pieces: Either<Date, Both<u64, Both<u64, ()>>>) -> CalendarDate
-    ensures { result ≡ made pieces }
-{
-    match pieces {
-        Either::First(d) => CalendarDate::Day(d),
-        Either::Second(p) => CalendarDate::Month {
-            year: p.front,
-            month: p.back.front,
-        },
-    }
-}
-
-fn split(value: &CalendarDate) -> Either<Date, Both<u64, Both<u64, ()>>>
-    ensures { result ≡ parts value.now }
-{
-    match *value {
-        CalendarDate::Day(d) => Either::First(d),
-        CalendarDate::Month { year, month } => Either::Second(Both {
-            front: year,
-            back: Both {
-                front: month,
-                back: (),
-            },
-        }),
-    }
-}
-
-impl<'a> Kind<'a> for CalendarDates {
     type Value = CalendarDate;
 
     ghost Val = { CalendarDate };
 
     ghost view = { λ v. v };
 
+    ghost Pieces = { Parts };
+
+    ghost seen = { λ p. p };
+
+    ghost built = { λ p. Some (made p) };
+
+    ghost pieces_of = { parts };
+
     ghost wide = { λ _. 8 };
+
+    ghost in_pieces = { λ _. in_parts };
 
     ghost reads = { λ _. calendar_date };
 
-    ghost laws = { λ _. calendar_date_laws };
+    ghost composed = { λ _. names_composed names parts_laws };
 
-    fn width(&self) -> usize
-        ensures { result ≡ 8 }
-    {
-        8
-    }
-
-    fn check(&self, s: &[u8]) -> Result<(), Fault>
-        ensures { Checked calendar_date s.now result }
-    {
-        PARTS.check(s)
-    }
-
-    fn read(&self, s: &'a [u8]) -> Result<CalendarDate, Fault>
-        ensures { Told (λ v. v) calendar_date s.now result }
-    {
-        match PARTS.read(s) {
-            Ok(pieces) => Ok(make(pieces)),
-            Err(e) => Err(e),
+    fn parts(&self) -> OrElse<Built<'a, Dates>, Then<Number, Then<Number, Word<'static>>>> {
+        OrElse {
+            first: Built::of(Dates),
+            second: Then {
+                first: Number {
+                    width: 4,
+                    low: 0,
+                    high: 9999,
+                },
+                second: Then {
+                    first: Number {
+                        width: 2,
+                        low: 1,
+                        high: 12,
+                    },
+                    second: Word { bytes: b"00" },
+                },
+            },
         }
     }
 
-    fn spell(&self, value: &CalendarDate, out: &mut [u8]) -> Result<(), Fault>
-        ensures { Spelled calendar_date value.now out.old out.new result }
+    fn build(&self, pieces: Either<Date, Both<u64, Both<u64, ()>>>) -> Option<CalendarDate>
+        ensures { MatchOption result (Some (made pieces) ≡ None) (λ v. Some (made pieces) ≡ Some v) }
     {
-        PARTS.spell(&split(value), out)
+        Some(match pieces {
+            Either::First(day) => CalendarDate::Day(day),
+            Either::Second(Both { front, back }) => CalendarDate::Month {
+                year: front,
+                month: back.front,
+            },
+        })
+    }
+
+    fn split(&self, value: &CalendarDate) -> Either<Date, Both<u64, Both<u64, ()>>>
+        ensures { result ≡ parts value.now }
+    {
+        match *value {
+            CalendarDate::Day(day) => Either::First(day),
+            CalendarDate::Month { year, month } => Either::Second(Both {
+                front: year,
+                back: Both {
+                    front: month,
+                    back: (),
+                },
+            }),
+        }
     }
 }

@@ -5,7 +5,8 @@ use crate::date::Date;
 
 pub mod moments;
 
-// A second of a day: no moment that there is not can be built.
+// A second of a day: no moment that there is not can be built. Beside Minute, since one type for both would have a second
+// that a minute has not.
 #[derive(Clone, Copy, PartialEq, Eq, Debug)]
 pub struct Moment {
     date: Date,

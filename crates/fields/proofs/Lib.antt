@@ -1,2 +1,1 @@
-mod Stripped
 pub mod Tagging

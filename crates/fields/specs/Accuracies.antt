@@ -8,7 +8,7 @@ use Rattle.kinds.specs.declared.point.Decimal.{Decimal}
 use Rattle.kinds.specs.Layers.{either, either_laws}
 use Rattle.kinds.specs.Points.{point, point_laws}
 use Rattle.kinds.specs.Texts.{word, word_laws}
-use Rattle.kinds.specs.Naming.{Names, named, names_laws}
+use Rattle.kind.specs.Naming.{Names, named, names_laws}
 use Rattle.fields.specs.declared.accuracy.Accuracy.{Accuracy}
 use Rattle.fields.specs.declared.accuracy.Accuracy.TheVariants.{Known, ZeroPoint, Zeros}
 
@@ -45,5 +45,8 @@ pub names : (low high : ℕ) → Names made parts (in_parts low high) (accuracy 
 unfolding accuracy
 names low high = record { same = λ s. refl; there = there; back = back }
 
+pub parts_laws : (low high : ℕ) → Laws 6 (in_parts low high)
+parts_laws low high = either_laws (point_laws 3 2 low high (omega arith) (omega arith)) (either_laws (word_laws (codes "000.00") (omega arith) (omega arith)) (word_laws (codes "000000") (omega arith) (omega arith)))
+
 pub accuracy_laws : (low high : ℕ) → Laws 6 (accuracy low high)
-accuracy_laws low high = names_laws (names low high) (either_laws (point_laws 3 2 low high (omega arith) (omega arith)) (either_laws (word_laws (codes "000.00") (omega arith) (omega arith)) (word_laws (codes "000000") (omega arith) (omega arith))))
+accuracy_laws low high = names_laws (names low high) (parts_laws low high)

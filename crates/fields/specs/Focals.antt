@@ -8,7 +8,7 @@ use Rattle.kinds.specs.declared.point.Decimal.{Decimal}
 use Rattle.kinds.specs.Layers.{either, either_laws}
 use Rattle.kinds.specs.Points.{point, point_laws}
 use Rattle.kinds.specs.Texts.{word, word_laws}
-use Rattle.kinds.specs.Naming.{Names, named, names_laws}
+use Rattle.kind.specs.Naming.{Names, named, names_laws}
 use Rattle.fields.specs.declared.focal.FocalLength.{FocalLength}
 use Rattle.fields.specs.declared.focal.FocalLength.TheVariants.{Known, Unavailable}
 
@@ -41,5 +41,8 @@ pub names : (low high : ℕ) → Names made parts (in_parts low high) (focal low
 unfolding focal
 names low high = record { same = λ s. refl; there = there; back = back }
 
+pub parts_laws : (low high : ℕ) → Laws 6 (in_parts low high)
+parts_laws low high = either_laws (point_laws 3 2 low high (omega arith) (omega arith)) (word_laws (codes "999.99") (omega arith) (omega arith))
+
 pub focal_laws : (low high : ℕ) → Laws 6 (focal low high)
-focal_laws low high = names_laws (names low high) (either_laws (point_laws 3 2 low high (omega arith) (omega arith)) (word_laws (codes "999.99") (omega arith) (omega arith)))
+focal_laws low high = names_laws (names low high) (parts_laws low high)

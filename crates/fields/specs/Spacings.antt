@@ -8,7 +8,7 @@ use Rattle.kinds.specs.declared.point.Decimal.{Decimal}
 use Rattle.kinds.specs.Layers.{either, either_laws}
 use Rattle.kinds.specs.Points.{point, point_laws}
 use Rattle.kinds.specs.Texts.{word, word_laws}
-use Rattle.kinds.specs.Naming.{Names, named, names_laws}
+use Rattle.kind.specs.Naming.{Names, named, names_laws}
 use Rattle.fields.specs.declared.spacing.PixelSpacing.{PixelSpacing}
 use Rattle.fields.specs.declared.spacing.PixelSpacing.TheVariants.{Fine, Coarse, Unknown}
 
@@ -45,5 +45,8 @@ pub names : (low high : ℕ) → Names made parts (in_parts low high) (spacing l
 unfolding spacing
 names low high = record { same = λ s. refl; there = there; back = back }
 
+pub parts_laws : (low high : ℕ) → Laws 7 (in_parts low high)
+parts_laws low high = either_laws (point_laws 2 4 low high (omega arith) (omega arith)) (either_laws (point_laws 4 2 low high (omega arith) (omega arith)) (word_laws (codes "0000000") (omega arith) (omega arith)))
+
 pub spacing_laws : (low high : ℕ) → Laws 7 (spacing low high)
-spacing_laws low high = names_laws (names low high) (either_laws (point_laws 2 4 low high (omega arith) (omega arith)) (either_laws (point_laws 4 2 low high (omega arith) (omega arith)) (word_laws (codes "0000000") (omega arith) (omega arith))))
+spacing_laws low high = names_laws (names low high) (parts_laws low high)

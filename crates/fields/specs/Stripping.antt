@@ -1,7 +1,7 @@
 -- Values as plain ones that say as much, where not every plain one stands for a value.
 use Rattle.std.specs.Prelude.{◌≡◌, Some, Option}
 use Rattle.std.proofs.Common.{sym, ◌∙◌, ap}
-use Rattle.kinds.specs.Bytes.{some_is}
+use Rattle.kind.specs.Options.{some_is}
 
 -- the value that a plain one stands for, if any, and the plain one of a value
 pub record Strips {V P : Type 0} (strip : V → P) (full : P → Option V) : Type 0 where

@@ -2,7 +2,7 @@
 use Rattle.std.specs.Prelude.{◌≡◌, ℕ, List, Some, None, Option, refl}
 use Rattle.std.proofs.Common.{sym, ◌∙◌, ap}
 use Rattle.kind.specs.Kinds.{Laws}
-use Rattle.kinds.specs.Bytes.{never}
+use Rattle.kind.specs.Options.{never}
 
 abbrev pub lifted : {V U : Type 0} → (V → U) → Option V → Option U
 lifted h None = None

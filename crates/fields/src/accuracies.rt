@@ -1,84 +1,68 @@
-ghost use Rattle.std.specs.Prelude.{◌≡◌};
-ghost use Rattle.kind.specs.Kinds.{Told, Checked, Spelled};
+ghost use Rattle.std.specs.Prelude.{Some};
+ghost use Rattle.kind.specs.Compounds.{names_composed};
 ghost use Rattle.fields.specs.declared.accuracy.Accuracy.{Accuracy};
-ghost use Rattle.fields.specs.Accuracies.{made, parts, accuracy, accuracy_laws};
+ghost use Rattle.fields.specs.Accuracies.{Parts, in_parts, made, parts, accuracy, names, parts_laws};
 
 use super::accuracy::{Accuracies, Accuracy};
-use kind::Kind;
+use kind::compound::Compound;
 use kinds::layers::{Either, OrElse};
 use kinds::point::{Decimal, Point};
 use kinds::word::Word;
-use refusal::fault::Fault;
 
-const UNKNOWN: OrElse<Word, Word> = OrElse {
-    first: Word { bytes: b"000.00" },
-    second: Word { bytes: b"000000" },
-};
+impl<'a> Compound<'a> for Accuracies {
+    type Parts = OrElse<Point, OrElse<Word<'static>, Word<'static>>>;
 
-// The kind that reads the parts.
-macro_rules! parts {
-    ($k:expr) => {
-        OrElse { first: Point { whole: 3, places: 2, low: $k.low, high: $k.high }, second: UNKNOWN }
-    };
-}
-
-fn make(pieces: Either<Decimal, Either<(), ()>>) -> Accuracy
-    ensures { result ≡ made pieces }
-{
-    match pieces {
-        Either::First(d) => Accuracy::Known(d),
-        Either::Second(Either::First(())) => Accuracy::ZeroPoint,
-        Either::Second(Either::Second(())) => Accuracy::Zeros,
-    }
-}
-
-fn split(value: &Accuracy) -> Either<Decimal, Either<(), ()>>
-    ensures { result ≡ parts value.now }
-{
-    match *value {
-        Accuracy::Known(d) => Either::First(d),
-        Accuracy::ZeroPoint => Either::Second(Either::First(())),
-        Accuracy::Zeros => Either::Second(Either::Second(())),
-    }
-}
-
-impl<'a> Kind<'a> for Accuracies {
     type Value = Accuracy;
 
     ghost Val = { Accuracy };
 
     ghost view = { λ v. v };
 
+    ghost Pieces = { Parts };
+
+    ghost seen = { λ p. p };
+
+    ghost built = { λ p. Some (made p) };
+
+    ghost pieces_of = { parts };
+
     ghost wide = { λ _. 6 };
+
+    ghost in_pieces = { λ k. in_parts k.low k.high };
 
     ghost reads = { λ k. accuracy k.low k.high };
 
-    ghost laws = { λ k. accuracy_laws k.low k.high };
+    ghost composed = { λ k. names_composed (names k.low k.high) (parts_laws k.low k.high) };
 
-    fn width(&self) -> usize
-        ensures { result ≡ 6 }
-    {
-        6
-    }
-
-    fn check(&self, s: &[u8]) -> Result<(), Fault>
-        ensures { Checked (accuracy self.now.low self.now.high) s.now result }
-    {
-        parts!(self).check(s)
-    }
-
-    fn read(&self, s: &'a [u8]) -> Result<Accuracy, Fault>
-        ensures { Told (λ v. v) (accuracy self.now.low self.now.high) s.now result }
-    {
-        match parts!(self).read(s) {
-            Ok(pieces) => Ok(make(pieces)),
-            Err(e) => Err(e),
+    fn parts(&self) -> OrElse<Point, OrElse<Word<'static>, Word<'static>>> {
+        let known = Point {
+            whole: 3,
+            places: 2,
+            low: self.low,
+            high: self.high,
+        };
+        OrElse {
+            first: known,
+            second: OrElse {
+                first: Word { bytes: b"000.00" },
+                second: Word { bytes: b"000000" },
+            },
         }
     }
 
-    fn spell(&self, value: &Accuracy, out: &mut [u8]) -> Result<(), Fault>
-        ensures { Spelled (accuracy self.now.low self.now.high) value.now out.old out.new result }
-    {
-        parts!(self).spell(&split(value), out)
+    fn build(&self, pieces: Either<Decimal, Either<(), ()>>) -> Option<Accuracy> {
+        Some(match pieces {
+            Either::First(d) => Accuracy::Known(d),
+            Either::Second(Either::First(())) => Accuracy::ZeroPoint,
+            Either::Second(Either::Second(())) => Accuracy::Zeros,
+        })
+    }
+
+    fn split(&self, value: &Accuracy) -> Either<Decimal, Either<(), ()>> {
+        match *value {
+            Accuracy::Known(d) => Either::First(d),
+            Accuracy::ZeroPoint => Either::Second(Either::First(())),
+            Accuracy::Zeros => Either::Second(Either::Second(())),
+        }
     }
 }

@@ -1,7 +1,8 @@
 use kinds::point::Decimal;
 
 // A focal length, or that there is none.
-#[derive(Clone, Copy)]
+// No Option: a blank field is absent, and 999.99 is a word of its own that is spelled.
+#[derive(Clone, Copy, PartialEq, Eq, Debug)]
 pub enum FocalLength {
     Known(Decimal),
     // the word 999.99

@@ -2,7 +2,8 @@ use kinds::text::TextBytes;
 use kinds::word::Word;
 
 // A name, or that there is none.
-#[derive(Clone, Copy)]
+// No Option: a blank field is absent, and the word for no name is spelled.
+#[derive(Clone, Copy, PartialEq, Eq, Debug)]
 pub enum Name<'a> {
     Unavailable,
     Given(TextBytes<'a>),
@@ -11,5 +12,5 @@ pub enum Name<'a> {
 // A word that says there is no name, or else text of the word's width.
 #[derive(Clone, Copy)]
 pub struct Names {
-    pub none: Word,
+    pub none: Word<'static>,
 }

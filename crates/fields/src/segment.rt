@@ -1,7 +1,8 @@
 use kinds::capital::Letters;
 
 // The segment that ends an operation, or that it is not known.
-#[derive(Clone, Copy)]
+// No Option: a blank field is absent, and 00 is a word of its own that is spelled.
+#[derive(Clone, Copy, PartialEq, Eq, Debug)]
 pub enum EndSegment<'a> {
     Known(Letters<'a>),
     // the word 00

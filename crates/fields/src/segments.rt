@@ -1,74 +1,63 @@
-ghost use Rattle.std.specs.Prelude.{◌≡◌};
-ghost use Rattle.kind.specs.Kinds.{Told, Checked, Spelled};
+ghost use Rattle.std.specs.Prelude.{Some};
+ghost use Rattle.kind.specs.Compounds.{Agrees};
+ghost use Rattle.kinds.specs.Layers.{either};
+ghost use Rattle.kinds.specs.Texts.{capitals, word};
+ghost use Rattle.fields.specs.Themselves.{composed_of_itself};
 ghost use Rattle.fields.specs.Segments.{Ending, seen_parts, seen_segment, segment, segment_laws};
 
 use super::segment::{EndSegment, EndSegments};
-use kind::Kind;
+use kind::compound::Compound;
 use kinds::capital::{Capitals, Letters};
 use kinds::layers::{Either, OrElse};
 use kinds::word::Word;
-use refusal::fault::Fault;
 
-const PARTS: OrElse<Capitals, Word> = OrElse {
-    first: Capitals { width: 2 },
-    second: Word { bytes: b"00" },
-};
+impl<'a> Compound<'a> for EndSegments {
+    type Parts = OrElse<Capitals, Word<'static>>;
 
-fn make<'a>(pieces: Either<Letters<'a>, ()>) -> EndSegment<'a>
-    ensures { seen_segment result ≡ seen_parts pieces.entry }
-{
-    match pieces {
-        Either::First(letters) => EndSegment::Known(letters),
-        Either::Second(()) => EndSegment::Unknown,
-    }
-}
-
-fn split<'a>(value: &EndSegment<'a>) -> Either<Letters<'a>, ()>
-    ensures { seen_parts result ≡ seen_segment value.now }
-{
-    match *value {
-        EndSegment::Known(letters) => Either::First(letters),
-        EndSegment::Unknown => Either::Second(()),
-    }
-}
-
-impl<'a> Kind<'a> for EndSegments {
     type Value = EndSegment<'a>;
 
     ghost Val = { Ending };
 
     ghost view = { seen_segment };
 
+    ghost Pieces = { Ending };
+
+    ghost seen = { seen_parts };
+
+    ghost built = { λ p. Some p };
+
+    ghost pieces_of = { λ v. v };
+
     ghost wide = { λ _. 2 };
+
+    ghost in_pieces = { λ _. segment };
 
     ghost reads = { λ _. segment };
 
-    ghost laws = { λ _. segment_laws };
+    ghost composed = { λ _. composed_of_itself segment_laws };
 
-    fn width(&self) -> usize
-        ensures { result ≡ 2 }
+    // The trait's clause, written out: the check cannot give it where a value borrows.
+    #[tactic(auto, unfolding(crate::specs::Segments::segment))]
+    fn parts(&self) -> OrElse<Capitals, Word<'static>>
+        ensures { Agrees result.first.width seen_parts (either result.first.width (capitals result.first.width) (word result.second.bytes.now)) 2 seen_parts segment }
     {
-        2
-    }
-
-    fn check(&self, s: &[u8]) -> Result<(), Fault>
-        ensures { Checked segment s.now result }
-    {
-        PARTS.check(s)
-    }
-
-    fn read(&self, s: &'a [u8]) -> Result<EndSegment<'a>, Fault>
-        ensures { Told seen_segment segment s.now result }
-    {
-        match PARTS.read(s) {
-            Ok(pieces) => Ok(make(pieces)),
-            Err(e) => Err(e),
+        OrElse {
+            first: Capitals { width: 2 },
+            second: Word { bytes: b"00" },
         }
     }
 
-    fn spell(&self, value: &EndSegment<'a>, out: &mut [u8]) -> Result<(), Fault>
-        ensures { Spelled segment (seen_segment value.now) out.old out.new result }
-    {
-        PARTS.spell(&split(value), out)
+    fn build(&self, pieces: Either<Letters<'a>, ()>) -> Option<EndSegment<'a>> {
+        Some(match pieces {
+            Either::First(letters) => EndSegment::Known(letters),
+            Either::Second(()) => EndSegment::Unknown,
+        })
+    }
+
+    fn split(&self, value: &EndSegment<'a>) -> Either<Letters<'a>, ()> {
+        match *value {
+            EndSegment::Known(letters) => Either::First(letters),
+            EndSegment::Unknown => Either::Second(()),
+        }
     }
 }

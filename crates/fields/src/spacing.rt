@@ -1,7 +1,7 @@
 use kinds::point::Decimal;
 
 // How far apart pixels are, in one of two notations.
-#[derive(Clone, Copy)]
+#[derive(Clone, Copy, PartialEq, Eq, Debug)]
 pub enum PixelSpacing {
     Fine(Decimal),
     Coarse(Decimal),

@@ -1,8 +1,7 @@
 -- The issued book keeps the laws.
-use Rattle.std.specs.Prelude.{◌≡◌, ℕ, ◌≤◌, Bool, true, false, cond, ◌&&◌, ◌||◌, List, [], ◌∷◌, take, drop, Some, ◌≢◌, refl}
-use Rattle.std.proofs.Common.{arith}
-use Rattle.book.specs.Meaning.{Laws}
-use Rattle.book.specs.declared.answer.Answer.TheVariants as answer
+use Rattle.std.specs.Prelude.{◌≡◌, ℕ, ◌≤◌, Bool, true, false, cond, ◌&&◌, ◌||◌, List, [], ◌∷◌, take, drop, Some, None, ◌≢◌, refl}
+use Rattle.std.proofs.Common.{ap, arith}
+use Rattle.book.specs.Meaning.{Laws, field as asking}
 use Rattle.rows.specs.Fair.{fair}
 use Rattle.rows.specs.Sensors.{flag}
 use Rattle.rows.specs.Slots.{Seen, slot_laws}
@@ -36,14 +35,15 @@ fields_fair tag = go (is_aimidb tag) (is_stdidc tag) (is_acftb tag)
     go false false true = refl
     go false false false = refl
 
-asked_wide : (fs : List Field) (n w : ℕ) → fairs fs ≡ true → asked fs ≡ answer.Field n w → (1 ≤ w) × (w ≤ 999)
+asked_wide : (fs : List Field) (n w : ℕ) → fairs fs ≡ true → asked fs ≡ Some (asking n w) → (1 ≤ w) × (w ≤ 999)
 asked_wide [] n w e h = absurd0 (cc)
 asked_wide (f ∷ fs) n w e h =
     let k = slot_laws f.row true (and_parts (fair f.row) (fairs fs) e).0 in
-    let same : f.row.width ≡ w = cc in
+    let e : asking f.number f.row.width ≡ asking n w = cc in
+    let same = ap (λ x. x.width) e in
     (omega (arith, k.low), omega (arith, k.high))
 
-first_asked : (a b c : Bool) → (a || (b || c)) ≡ true → asked (after (cond a aimidb (cond b stdidc (cond c acftb []))) false []).fields ≢ answer.Done
+first_asked : (a b c : Bool) → (a || (b || c)) ≡ true → asked (after (cond a aimidb (cond b stdidc (cond c acftb []))) false []).fields ≢ None
 unfolding aimidb stdidc acftb
 first_asked true b c k e = absurd0 (cc)
 first_asked false true c k e = absurd0 (cc)

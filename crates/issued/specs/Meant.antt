@@ -1,15 +1,19 @@
 -- What the issued book means by its tables.
-use Rattle.std.specs.Prelude.{◌≡◌, ℕ, ◌+◌, ◌-◌, Bool, false, cond, ◌||◌, List, [], ◌∷◌, ◌++◌, take, drop, None, codes, Option, ◌==◌, nat_lt, slice_index_or}
+use Rattle.std.specs.Prelude.{◌≡◌, ℕ, ◌+◌, ◌-◌, Bool, false, cond, ◌||◌, ◌≤◌, List, [], ◌∷◌, ◌++◌, take, drop, Some, None, Ok, Err, codes, Option, Result, ◌==◌, nat_lt, slice_index_or}
 use Rattle.std.specs.Str.{bytes_eq}
-use Rattle.book.specs.Meaning.{Meaning}
-use Rattle.book.specs.declared.answer.Answer.{Answer}
-use Rattle.book.specs.declared.answer.Answer.TheVariants as answer
-use Rattle.rows.specs.declared.code.Code.{Code}
-use Rattle.rows.specs.declared.code.Code.TheVariants.{Number}
+use Rattle.refusal.specs.declared.fault.Fault.{Fault}
+use Rattle.refusal.specs.Faults.{unread}
+use Rattle.book.specs.Meaning.{Meaning, field as asking}
+use Rattle.book.specs.declared.field.Field.{Field as Asking}
+use Rattle.rows.specs.declared.code.Code.TheVariants.{Figure}
+use Rattle.rows.specs.declared.code.FigureCode.TheVariants.{Number}
 use Rattle.rows.specs.declared.row.Row.{Row}
 use Rattle.rows.specs.Sensors.{flag}
 use Rattle.rows.specs.Slots.{Seen, slot}
 use Rattle.issued.specs.declared.mark.Mark.{Mark}
+use Rattle.issued.specs.declared.row_number.RowNumber.{RowNumber}
+use Rattle.issued.specs.declared.tag.Tag.{Tag}
+use Rattle.issued.specs.declared.tag.Tag.TheVariants as tags
 use Rattle.issued.specs.Published.{Field, field, aimidb, stdidc, acftb, published}
 
 abbrev pub is_aimidb : List ℕ → Bool
@@ -36,9 +40,9 @@ after [] sar p = record { fields = []; sar = sar }
 after (f ∷ fs) sar [] = record { fields = f ∷ fs; sar = sar }
 after (f ∷ fs) sar (x ∷ p) = after fs (flag f.row.kind sar (take f.row.width (x ∷ p))) (drop f.row.width (x ∷ p))
 
-abbrev pub asked : List Field → Answer
-asked [] = answer.Done
-asked (f ∷ fs) = answer.Field f.number f.row.width
+abbrev pub asked : List Field → Option Asking
+asked [] = None
+asked (f ∷ fs) = Some (asking f.number f.row.width)
 
 abbrev pub read_at : List Field → Bool → List ℕ → Option Seen
 read_at [] sar s = None
@@ -53,7 +57,7 @@ issued = record {
 
 -- The table that the code keeps: the rows of the three tags one behind another.
 abbrev pub none : Field
-none = field "" 0 Number 0 0 false 0
+none = field "" 0 (Figure Number) 0 0 false 0
 
 abbrev pub field_at : ℕ → Field
 field_at i = slice_index_or published i none
@@ -61,20 +65,38 @@ field_at i = slice_index_or published i none
 abbrev pub row_at : ℕ → Row
 row_at i = (field_at i).row
 
--- a row as the code keeps it: width, kind, lowest, highest, blank
-abbrev pub Line : Type 0
-Line = ℕ × Code × ℕ × ℕ × Bool
+abbrev pub rows_in : List Field → List Row
+rows_in [] = []
+rows_in (f ∷ fs) = f.row ∷ rows_in fs
 
--- the row that a line keeps
-abbrev pub kept : Line → Row
-kept l = record { width = l.0; kind = l.1; low = l.2; high = l.3; blank = l.4 }
+-- the tag that is written so, if it is known
+abbrev pub tag_of : List ℕ → Option Tag
+tag_of tag = cond (is_aimidb tag) (Some tags.Aimidb) (cond (is_stdidc tag) (Some tags.Stdidc) (cond (is_acftb tag) (Some tags.Acftb) None))
 
-abbrev pub no_line : Line
-no_line = (0, Number, 0, 0, false)
+abbrev pub fields_in : Tag → List Field
+fields_in tags.Aimidb = aimidb
+fields_in tags.Stdidc = stdidc
+fields_in tags.Acftb = acftb
 
-abbrev pub lines_of : List Field → List Line
-lines_of [] = []
-lines_of (f ∷ fs) = (f.row.width, f.row.kind, f.row.low, f.row.high, f.row.blank) ∷ lines_of fs
+-- a tag's first row, and the row past its last
+abbrev pub first_of : Tag → ℕ
+first_of tags.Aimidb = 0
+first_of tags.Stdidc = 18
+first_of tags.Acftb = 36
+
+abbrev pub past_of : Tag → ℕ
+past_of tags.Aimidb = 18
+past_of tags.Stdidc = 36
+past_of tags.Acftb = 64
+
+-- the tag that row i belongs to
+abbrev pub tag_at : ℕ → Tag
+tag_at i = cond (nat_lt i 18) tags.Aimidb (cond (nat_lt i 36) tags.Stdidc tags.Acftb)
+
+-- row i is in the table, or nothing reads there
+abbrev pub Placed : ℕ → Result RowNumber Fault → Type 0
+Placed i (Ok n) = n.i ≡ i
+Placed i (Err e) = (64 ≤ i) × (e ≡ unread)
 
 -- the row past the last of row i's tag
 abbrev pub end_of : ℕ → ℕ

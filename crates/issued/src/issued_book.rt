@@ -6,14 +6,13 @@ ghost use Rattle.issued.specs.Meant.{issued, Stands};
 ghost use Rattle.issued.specs.Lawful.{issued_laws};
 
 use super::mark::Mark;
-use super::table::{ACFTB, ROWS, STDIDC, at, next_row, number_at, slot_at};
+use super::tag::Tag;
 use book::Book;
-use book::answer::Answer;
+use book::field::Field;
 use kind::Kind;
-use kinds::refuse::no_reading;
 use kinds::words::same;
 use refusal::fault::Fault;
-use rows::code::Code;
+use rows::code::{Code, LabelCode};
 use rows::value::FieldValue;
 
 // Whether SAR was read, after one more field.
@@ -21,7 +20,7 @@ fn sar_after(kind: Code, sar: bool, spelling: &[u8]) -> bool
     ensures { result ≡ flag kind sar spelling.now }
 {
     match kind {
-        Code::Sensor => same(spelling, b"SAR "),
+        Code::Label(LabelCode::Sensor) => same(spelling, b"SAR "),
         _ => sar,
     }
 }
@@ -48,45 +47,30 @@ impl<'a> Book<'a> for IssuedBook {
     fn start(&self, tag: &[u8]) -> Option<Mark>
         ensures { Started issued Stands tag.now result }
     {
-        if same(tag, b"AIMIDB") {
-            Some(Mark { row: 0, sar: false })
-        } else if same(tag, b"STDIDC") {
-            Some(Mark {
-                row: STDIDC,
-                sar: false,
-            })
-        } else if same(tag, b"ACFTB ") {
-            Some(Mark {
-                row: ACFTB,
-                sar: false,
-            })
-        } else {
-            None
-        }
+        let known = Tag::of(tag)?;
+        Some(Mark {
+            row: known.first(),
+            sar: false,
+        })
     }
 
-    fn next(&self, mark: &Mark) -> Answer
+    fn next(&self, mark: &Mark) -> Option<Field>
         ensures { Asked issued Stands mark.now result }
     {
-        if mark.row < ROWS {
-            Answer::Field {
-                name: number_at(mark.row),
-                width: at(mark.row).width,
-            }
-        } else {
-            Answer::Done
-        }
+        let n = mark.next_row()?;
+        Some(Field {
+            name: n.name(),
+            width: n.row().width,
+        })
     }
 
     fn pass(&self, mark: &mut Mark, spelling: &[u8]) -> Result<(), Fault>
         ensures { Passed issued Stands mark.old mark.new spelling.now result }
     {
-        if mark.row >= ROWS {
-            return Err(no_reading());
-        }
-        slot_at(mark.row, mark.sar).check(spelling)?;
-        let sar = sar_after(at(mark.row).kind, mark.sar, spelling);
-        let row = next_row(mark.row);
+        let n = mark.here()?;
+        n.slot(mark.sar).check(spelling)?;
+        let sar = sar_after(n.row().kind, mark.sar, spelling);
+        let row = n.next();
         *mark = Mark { row, sar };
         Ok(())
     }
@@ -94,10 +78,7 @@ impl<'a> Book<'a> for IssuedBook {
     fn value(&self, mark: &Mark, spelling: &'a [u8]) -> Result<Option<FieldValue<'a>>, Fault>
         ensures { Valued issued Stands seen mark.now spelling.now result }
     {
-        if mark.row >= ROWS {
-            return Err(no_reading());
-        }
-        slot_at(mark.row, mark.sar).read(spelling)
+        mark.here()?.slot(mark.sar).read(spelling)
     }
 
     fn spell(
@@ -108,9 +89,6 @@ impl<'a> Book<'a> for IssuedBook {
     ) -> Result<(), Fault>
         ensures { Spelling issued Stands mark.now (seen value.now) out.old out.new result }
     {
-        if mark.row >= ROWS {
-            return Err(no_reading());
-        }
-        slot_at(mark.row, mark.sar).spell(value, out)
+        mark.here()?.slot(mark.sar).spell(value, out)
     }
 }

@@ -1,11 +1,11 @@
-ghost use Rattle.std.specs.Prelude.{◌≡◌, Some, None, MatchOption};
+ghost use Rattle.std.specs.Prelude.{◌≡◌, [], Some, None, MatchOption};
 ghost use Rattle.issued.specs.Meant.{fields_of};
 ghost use Rattle.issued.specs.Widths.{named, names, texts};
 
-use super::table::{ACFTB, ROWS, STDIDC};
-use kinds::words::same;
+use super::table::ROWS;
+use super::tag::Tag;
 
-// The names of the fields, row by row.
+// The names of the fields, row by row; they stand apart, since the table is to be one array of plain rows.
 const NAMES: [&'static str; ROWS] = [
     // AIMIDB
     "ACQUISITION_DATE",
@@ -76,30 +76,17 @@ const NAMES: [&'static str; ROWS] = [
     "MTI_TOT",
 ];
 
-// The names of a tag's fields; none for a tag that is not known.
-fn names_of(tag: &[u8]) -> &'static [&'static str]
-    ensures { texts result.now ≡ names (fields_of tag.now) }
+// The names of a tag's fields, if it is known.
+fn names_of(tag: &[u8]) -> Option<&'static [&'static str]>
+    ensures { MatchOption result (fields_of tag.now ≡ []) (λ ts. texts ts.now ≡ names (fields_of tag.now)) }
 {
-    if same(tag, b"AIMIDB") {
-        &NAMES[0..STDIDC]
-    } else if same(tag, b"STDIDC") {
-        &NAMES[STDIDC..ACFTB]
-    } else if same(tag, b"ACFTB ") {
-        &NAMES[ACFTB..]
-    } else {
-        &[]
-    }
+    let known = Tag::of(tag)?;
+    Some(&NAMES[known.first()..known.end()])
 }
 
 // The published name of a tag's field, by its name number.
 pub fn field_name(tag: &[u8], number: u16) -> Option<&'static str>
     ensures { MatchOption result (named (fields_of tag.now) number ≡ None) (λ name. named (fields_of tag.now) number ≡ Some name.now) }
 {
-    let names = names_of(tag);
-    let n = number as usize;
-    if n < names.len() {
-        Some(names[n])
-    } else {
-        None
-    }
+    names_of(tag)?.get(number as usize).copied()
 }

@@ -1,162 +1,144 @@
-ghost use Rattle.std.specs.Prelude.{◌≡◌, ◌<◌, false, length, MatchOption, slice_index_or};
-ghost use Rattle.issued.specs.Meant.{kept, no_line, row_at, lines_of, field_at, fields_of, next_of, issued};
+ghost use Rattle.std.specs.Prelude.{◌≡◌, false, MatchOption};
+ghost use Rattle.issued.specs.Meant.{row_at, rows_in, field_at, fields_of, next_of, issued};
 
-use kinds::words::same;
+use super::row_number::RowNumber;
+use super::tag::Tag;
 use rows::cell::Cell;
-use rows::code::Code;
+use rows::code::Code::{Figure, Label, Spot, Writing};
+use rows::code::FigureCode::{Accuracy, Angle, Focal, Number, Signed, Spacing, Total};
+use rows::code::LabelCode::{Date, Minute, MissionNumber, Moment, Replay, Sensor, Turn, Version};
+use rows::code::SpotCode::{LengthUnit, Location, Place, SpacingUnit};
+use rows::code::WritingCode::{
+    AircraftMission, Capitals, EndSegment, MissionName, Spaces, Text, Underscore,
+};
 use rows::row::Row;
 use rows::slot::Slot;
 
-// The first rows of the tags after AIMIDB, which begins the table, and the row past the last.
-pub const STDIDC: usize = 18;
-
-pub const ACFTB: usize = 36;
-
+// How many rows the table has.
 pub const ROWS: usize = 64;
 
 // A row: the field's width, its kind, the lowest and the highest number, and whether all spaces stand for none.
-pub type Line = (u16, Code, u64, u64, bool);
+// A macro keeps each on one line; a constant may not call a const fn.
+macro_rules! row {
+    ($width:expr, $kind:expr, $low:expr, $high:expr, $blank:expr) => {
+        Row { width: $width, kind: $kind, low: $low, high: $high, blank: $blank }
+    };
+}
 
-const TABLE: [Line; ROWS] = [
+const TABLE: [Row; ROWS] = [
     // AIMIDB
-    (14, Code::Moment, 0, 0, false),
-    (4, Code::MissionNumber, 0, 0, false),
-    (10, Code::MissionName, 0, 0, false),
-    (2, Code::Turn, 0, 9, false),
-    (3, Code::Number, 0, 999, false),
-    (2, Code::Capitals, 0, 0, false),
-    (2, Code::Number, 0, 99, false),
-    (3, Code::Replay, 0, 0, true),
-    (1, Code::Spaces, 0, 0, false),
-    (3, Code::Number, 1, 99, false),
-    (5, Code::Number, 1, 99999, false),
-    (2, Code::EndSegment, 0, 0, false),
-    (3, Code::Number, 1, 99, false),
-    (5, Code::Number, 1, 99999, false),
-    (2, Code::Capitals, 0, 0, true),
-    (4, Code::Spaces, 0, 0, false),
-    (11, Code::Location, 0, 0, true),
-    (13, Code::Spaces, 0, 0, false),
+    row!(14, Label(Moment), 0, 0, false),
+    row!(4, Label(MissionNumber), 0, 0, false),
+    row!(10, Writing(MissionName), 0, 0, false),
+    row!(2, Label(Turn), 0, 9, false),
+    row!(3, Figure(Number), 0, 999, false),
+    row!(2, Writing(Capitals), 0, 0, false),
+    row!(2, Figure(Number), 0, 99, false),
+    row!(3, Label(Replay), 0, 0, true),
+    row!(1, Writing(Spaces), 0, 0, false),
+    row!(3, Figure(Number), 1, 99, false),
+    row!(5, Figure(Number), 1, 99999, false),
+    row!(2, Writing(EndSegment), 0, 0, false),
+    row!(3, Figure(Number), 1, 99, false),
+    row!(5, Figure(Number), 1, 99999, false),
+    row!(2, Writing(Capitals), 0, 0, true),
+    row!(4, Writing(Spaces), 0, 0, false),
+    row!(11, Spot(Location), 0, 0, true),
+    row!(13, Writing(Spaces), 0, 0, false),
     // STDIDC
-    (14, Code::Moment, 0, 0, false),
-    (14, Code::Text, 0, 0, false),
-    (2, Code::Turn, 1, 99, false),
-    (3, Code::Number, 0, 999, false),
-    (2, Code::Capitals, 0, 0, false),
-    (2, Code::Number, 0, 99, false),
-    (3, Code::Text, 0, 0, false),
-    (1, Code::Underscore, 0, 0, true),
-    (3, Code::Number, 1, 999, false),
-    (5, Code::Number, 1, 99999, false),
-    (2, Code::Capitals, 0, 0, false),
-    (3, Code::Number, 1, 999, false),
-    (5, Code::Number, 1, 99999, false),
-    (2, Code::Capitals, 0, 0, true),
-    (4, Code::Number, 1, 1866, true),
-    (11, Code::Location, 0, 0, false),
-    (5, Code::Spaces, 0, 0, false),
-    (8, Code::Spaces, 0, 0, false),
+    row!(14, Label(Moment), 0, 0, false),
+    row!(14, Writing(Text), 0, 0, false),
+    row!(2, Label(Turn), 1, 99, false),
+    row!(3, Figure(Number), 0, 999, false),
+    row!(2, Writing(Capitals), 0, 0, false),
+    row!(2, Figure(Number), 0, 99, false),
+    row!(3, Writing(Text), 0, 0, false),
+    row!(1, Writing(Underscore), 0, 0, true),
+    row!(3, Figure(Number), 1, 999, false),
+    row!(5, Figure(Number), 1, 99999, false),
+    row!(2, Writing(Capitals), 0, 0, false),
+    row!(3, Figure(Number), 1, 999, false),
+    row!(5, Figure(Number), 1, 99999, false),
+    row!(2, Writing(Capitals), 0, 0, true),
+    row!(4, Figure(Number), 1, 1866, true),
+    row!(11, Spot(Location), 0, 0, false),
+    row!(5, Writing(Spaces), 0, 0, false),
+    row!(8, Writing(Spaces), 0, 0, false),
     // ACFTB
-    (20, Code::AircraftMission, 0, 0, false),
-    (10, Code::Text, 0, 0, true),
-    (12, Code::Minute, 0, 0, true),
-    (4, Code::Sensor, 0, 0, false),
-    (6, Code::Text, 0, 0, false),
-    (1, Code::Number, 0, 9, true),
-    (6, Code::Number, 0, 999999, false),
-    (8, Code::Date, 0, 0, false),
-    (6, Code::Number, 0, 999999, false),
-    (5, Code::Number, 0, 99999, false),
-    (3, Code::Number, 1, 999, false),
-    (25, Code::Place, 0, 0, true),
-    (6, Code::Accuracy, 1, 99999, false),
-    (6, Code::Signed, 1000, 30000, true),
-    (1, Code::LengthUnit, 0, 0, true),
-    (25, Code::Place, 0, 0, true),
-    (6, Code::Signed, 1000, 30000, true),
-    (7, Code::Angle, 0, 180000, true),
-    (7, Code::Spacing, 0, 999999, false),
-    (1, Code::SpacingUnit, 0, 0, false),
-    (7, Code::Spacing, 0, 999999, false),
-    (1, Code::SpacingUnit, 0, 0, false),
-    (6, Code::Focal, 1, 89999, false),
-    (6, Code::Number, 1, 999999, true),
-    (7, Code::Version, 0, 0, true),
-    (8, Code::Date, 0, 0, true),
-    (4, Code::Total, 0, 9999, false),
-    (3, Code::Total, 0, 999, false),
+    row!(20, Writing(AircraftMission), 0, 0, false),
+    row!(10, Writing(Text), 0, 0, true),
+    row!(12, Label(Minute), 0, 0, true),
+    row!(4, Label(Sensor), 0, 0, false),
+    row!(6, Writing(Text), 0, 0, false),
+    row!(1, Figure(Number), 0, 9, true),
+    row!(6, Figure(Number), 0, 999999, false),
+    row!(8, Label(Date), 0, 0, false),
+    row!(6, Figure(Number), 0, 999999, false),
+    row!(5, Figure(Number), 0, 99999, false),
+    row!(3, Figure(Number), 1, 999, false),
+    row!(25, Spot(Place), 0, 0, true),
+    row!(6, Figure(Accuracy), 1, 99999, false),
+    row!(6, Figure(Signed), 1000, 30000, true),
+    row!(1, Spot(LengthUnit), 0, 0, true),
+    row!(25, Spot(Place), 0, 0, true),
+    row!(6, Figure(Signed), 1000, 30000, true),
+    row!(7, Figure(Angle), 0, 180000, true),
+    row!(7, Figure(Spacing), 0, 999999, false),
+    row!(1, Spot(SpacingUnit), 0, 0, false),
+    row!(7, Figure(Spacing), 0, 999999, false),
+    row!(1, Spot(SpacingUnit), 0, 0, false),
+    row!(6, Figure(Focal), 1, 89999, false),
+    row!(6, Figure(Number), 1, 999999, true),
+    row!(7, Label(Version), 0, 0, true),
+    row!(8, Label(Date), 0, 0, true),
+    row!(4, Figure(Total), 0, 9999, false),
+    row!(3, Figure(Total), 0, 999, false),
 ];
 
 // The rows of a tag, if it is known.
-pub fn rows_of(tag: &[u8]) -> Option<&'static [Line]>
-    ensures { MatchOption result (issued.knows tag.now ≡ false) (λ rows. rows.now ≡ lines_of (fields_of tag.now)) }
+pub fn rows_of(tag: &[u8]) -> Option<&'static [Row]>
+    ensures { MatchOption result (issued.knows tag.now ≡ false) (λ rows. rows.now ≡ rows_in (fields_of tag.now)) }
 {
-    if same(tag, b"AIMIDB") {
-        Some(&TABLE[0..STDIDC])
-    } else if same(tag, b"STDIDC") {
-        Some(&TABLE[STDIDC..ACFTB])
-    } else if same(tag, b"ACFTB ") {
-        Some(&TABLE[ACFTB..])
-    } else {
-        None
+    let known = Tag::of(tag)?;
+    Some(&TABLE[known.first()..known.end()])
+}
+
+impl RowNumber {
+    // The row, which is as it was published.
+    pub fn row(self) -> Row
+        ensures { result ≡ row_at self.i }
+    {
+        TABLE[self.i]
     }
-}
 
-// Row i of some rows, with its parts by name.
-fn pick(rows: &[Line], i: usize) -> Row
-    requires { i < length rows.now }
-    ensures { result ≡ kept (slice_index_or rows.now i no_line) }
-{
-    let (width, kind, low, high, blank) = rows[i];
-    Row {
-        width,
-        kind,
-        low,
-        high,
-        blank,
+    // The number of its name in its tag.
+    pub fn name(self) -> u16
+        ensures { result ≡ (field_at self.i).number }
+    {
+        (self.i - Tag::at(self.i).first()) as u16
     }
-}
 
-// Row i, which is as it was published.
-pub fn at(i: usize) -> Row
-    requires { i < 64 }
-    ensures { result ≡ row_at i }
-{
-    pick(&TABLE, i)
-}
-
-// The number of row i's name in its tag.
-pub fn number_at(i: usize) -> u16
-    requires { i < 64 }
-    ensures { result ≡ (field_at i).number }
-{
-    if i < STDIDC {
-        i as u16
-    } else if i < ACFTB {
-        (i - STDIDC) as u16
-    } else {
-        (i - ACFTB) as u16
+    // The row after it, or the end past a tag's last.
+    pub fn next(self) -> usize
+        ensures { result ≡ next_of self.i }
+    {
+        let next = self.i + 1;
+        if next == Tag::at(self.i).end() {
+            ROWS
+        } else {
+            next
+        }
     }
-}
 
-// The row after row i, or the end past a tag's last.
-pub fn next_row(i: usize) -> usize
-    requires { i < 64 }
-    ensures { result ≡ next_of i }
-{
-    if i + 1 == STDIDC || i + 1 == ACFTB {
-        ROWS
-    } else {
-        i + 1
-    }
-}
-
-// The kind of row i.
-pub fn slot_at(i: usize, sar: bool) -> Slot
-    requires { i < 64 }
-    ensures { (result.cell.row ≡ row_at i) × (result.cell.sar ≡ sar) }
-{
-    Slot {
-        cell: Cell { row: at(i), sar },
+    // The kind of the row.
+    pub fn slot(self, sar: bool) -> Slot
+        ensures { (result.cell.row ≡ row_at self.i) × (result.cell.sar ≡ sar) }
+    {
+        Slot {
+            cell: Cell {
+                row: self.row(),
+                sar,
+            },
+        }
     }
 }

@@ -1,1 +1,4 @@
+pub mod Compounds
 pub mod Kinds
+pub mod Naming
+pub mod Options

@@ -3,6 +3,8 @@
 ghost use Rattle.std.specs.Prelude.{◌≡◌, ℕ, List, Option};
 ghost use Rattle.kind.specs.Kinds.{Laws, Told, Checked, Spelled, TwoLaws};
 
+pub mod compound;
+
 use refusal::fault::Fault;
 
 // A kind says which spellings of its width read, and as what value. Its values may be parts of the bytes read.
@@ -23,7 +25,7 @@ pub trait Kind<'a> {
     fn width(&self) -> usize
         ensures { result ≡ wide self.now };
 
-    // Whether the bytes read; no value is made.
+    // Whether the bytes read; no value is made. No default goes through read, whose bytes live as long as 'a.
     fn check(&self, s: &[u8]) -> Result<(), Fault>
         ensures { Checked (reads self.now) s.now result };
 

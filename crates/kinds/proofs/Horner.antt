@@ -1,5 +1,5 @@
 -- Reading and writing digits, one after another.
-use Rattle.std.proofs.Common.{◌≡◌, ℕ, suc, ◌+◌, ◌-◌, ◌*◌, ◌/◌, ◌%◌, ◌^◌, ◌<◌, ◌≤◌, true, List, [], ◌∷◌, ◌++◌, length, get_or, take, drop, set, sym, ap, ◌∙◌, append_assoc, append-nil, mod-lt, mul_assoc, div-lt_iff_lt-mul, add-mul, arith, length-set, pow-add}
+use Rattle.std.proofs.Common.{◌≡◌, ℕ, suc, ◌+◌, ◌-◌, ◌*◌, ◌/◌, ◌%◌, ◌^◌, ◌<◌, ◌≤◌, true, List, [], ◌∷◌, ◌++◌, length, get_or, take, drop, set, sym, ◌∙◌, append_assoc, append-nil, mod-lt, mul_assoc, div-lt_iff_lt-mul, add-mul, arith, pow-add}
 use native.Mathlib.Nat.{pow-succ', pow-le-pow_right}
 use lib.Arith.{digits_lt}
 use Rattle.std.proofs.lemmas.List.{take_more_set, at_drop_more, take_all}
@@ -30,14 +30,14 @@ joined_lt x y a q f b h =
     omega (arith, l, tens (a + q) 18 h, pow-add 10 a q)
 
 -- one digit more is written
-pub put_step : (out : List ℕ) (i rest n p : ℕ) → i < length out → p ≡ 10 ^ (length out - 1 - i) → take i out ++ digits (length out - i) rest ≡ digits (length out) n → take (i + 1) (set out i (48 + rest / p)) ++ digits (length (set out i (48 + rest / p)) - (i + 1)) (rest % p) ≡ digits (length (set out i (48 + rest / p))) n
-put_step out i rest n p h e inv =
-    let k = length out - 1 - i in
-    let a : length out - i ≡ suc k = omega arith in
-    let b : length out - (i + 1) ≡ k = omega arith in
-    let l = length-set out i (48 + rest / p) in
-    let inv' : take i out ++ digits (suc k) rest ≡ digits (length out) n = rw a at inv in
-    rw (take_more_set out i (48 + rest / p) h, l, b, append_assoc, e) inv'
+pub put_step : (out : List ℕ) (i rest n p w : ℕ) → length out ≡ w → i < w → p ≡ 10 ^ (w - 1 - i) → take i out ++ digits (w - i) rest ≡ digits w n → take (i + 1) (set out i (48 + rest / p)) ++ digits (w - (i + 1)) (rest % p) ≡ digits w n
+put_step out i rest n p w l h e inv =
+    let k = w - 1 - i in
+    let a : w - i ≡ suc k = omega arith in
+    let b : w - (i + 1) ≡ k = omega arith in
+    let h' : i < length out = omega arith in
+    let inv' : take i out ++ digits (suc k) rest ≡ digits w n = rw a at inv in
+    rw (take_more_set out i (48 + rest / p) h', b, append_assoc, e) inv'
 
 pub rest_less : (n i rest p : ℕ) → i < n → p ≡ 10 ^ (n - 1 - i) → rest < 10 ^ (n - i) → (rest / p < 10) × (rest % p < 10 ^ (n - (i + 1))) × (0 < p)
 rest_less n i rest p h e lt =
@@ -53,8 +53,8 @@ pub figure_at : (s : List ℕ) (i : ℕ) → i < length s → figures (drop i s)
 figure_at s i h e = figure (get_or s i 0) (drop (i + 1) s) (sym (at_drop_more figures s i 0 h) ∙ e)
 
 -- all digits are written
-pub put_all : (out : List ℕ) (i rest n m : ℕ) → length out ≤ i → length out ≡ m → take i out ++ digits (length out - i) rest ≡ digits (length out) n → out ≡ digits m n
-put_all out i rest n m h e inv =
-    let z : length out - i ≡ 0 = omega arith in
-    let d : out ≡ digits (length out) n = rw (z, take_all i out h, append-nil out) at inv in
-    d ∙ ap (λ k. digits k n) e
+pub put_all : (out : List ℕ) (i rest n w : ℕ) → length out ≡ w → w ≤ i → take i out ++ digits (w - i) rest ≡ digits w n → out ≡ digits w n
+put_all out i rest n w l h inv =
+    let z : w - i ≡ 0 = omega arith in
+    let h' : length out ≤ i = omega arith in
+    rw (z, take_all i out h', append-nil out) at inv

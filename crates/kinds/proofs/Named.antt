@@ -1,16 +1,27 @@
 -- Checking, reading and spelling values with names of their own.
 use Rattle.std.proofs.Common.{◌≡◌, ℕ, List, Some, Ok, Err, Option, Result, sym, ap, ◌∙◌}
 use Rattle.refusal.specs.declared.fault.Fault.{Fault}
+use Rattle.kind.specs.Compounds.{Agrees}
 use Rattle.kind.specs.Kinds.{Checked, Spelled}
 use Rattle.kinds.specs.declared.layers.Either.{Either}
 use Rattle.kinds.specs.declared.layers.Either.TheVariants.{First, Second}
 use Rattle.kinds.specs.Layers.{seen_either}
-use Rattle.kinds.specs.Naming.{Names, names_some, names_none, names_is, named, Builds, builds_told, builds_is}
+use Rattle.kind.specs.Naming.{Names, names_some, names_none, names_is, named, Builds, builds_told, builds_is}
 
 -- a value of one of two kinds stands for itself where theirs do
 pub seen : {A B : Type 0} {f : A → A} {g : B → B} → ((a : A) → f a ≡ a) → ((b : B) → g b ≡ b) → (x : Either A B) → seen_either f g x ≡ x
 seen h k (First a) = ap First (h a)
 seen h k (Second b) = ap Second (k b)
+
+-- a kind of the same readings, whose values stand for themselves
+pub agrees : {A : Type 0} {w u : ℕ} {view : A → A} {f g : List ℕ → Option A} → w ≡ u → ((a : A) → view a ≡ a) → ((s : List ℕ) → f s ≡ g s) → Agrees w view f u (λ a. a) g
+agrees e v h = record {
+  wide = e;
+  reads = λ s a r. sym (h s) ∙ r ∙ ap Some (v a);
+  spells = λ s a r. h s ∙ r ∙ ap Some (sym (v a));
+  none = λ s r. sym (h s) ∙ r;
+  some = λ s b r. (b, sym (h s) ∙ r);
+}
 
 module _ {P V : Type 0} {made : P → V} {parts : V → P} {below : List ℕ → Option P} {reads : List ℕ → Option V} (k : Names made parts below reads) where
   pub names_checked : (s : List ℕ) (r : Result (Unit {0}) Fault) → Checked below s r → Checked reads s r

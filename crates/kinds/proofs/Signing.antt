@@ -31,6 +31,16 @@ module _ (w below above : ℕ) where
   unfolding signed
   signed_other s a b = rw (ne_eqb (get_or s 0 0) 43 a, ne_eqb (get_or s 0 0) 45 b) refl
 
+  -- the same of a first byte and what stands behind it
+  pub first_plus : (x : ℕ) (r s : List ℕ) → s ≡ x ∷ r → x ≡ 43 → signed w below above s ≡ plus (number w 0 above r)
+  first_plus x r s e h = ap (signed w below above) e ∙ signed_plus (x ∷ r) h
+
+  pub first_minus : (x : ℕ) (r s : List ℕ) → s ≡ x ∷ r → x ≡ 45 → signed w below above s ≡ minus (number w 1 below r)
+  first_minus x r s e h = ap (signed w below above) e ∙ signed_minus (x ∷ r) h
+
+  pub first_other : (x : ℕ) (r s : List ℕ) → s ≡ x ∷ r → (x ≡ 43 → ⊥) → (x ≡ 45 → ⊥) → signed w below above s ≡ None
+  first_other x r s e a b = ap (signed w below above) e ∙ signed_other (x ∷ r) a b
+
 -- a spelling behind a sign
 module _ {V : Type 0} (f : List ℕ → Option V) (sign : ℕ) where
   pub led_is : (s : List ℕ) (v : V) → led sign f s ≡ Some v → (get_or s 0 0 ≡ sign) × (f (drop 1 s) ≡ Some v)

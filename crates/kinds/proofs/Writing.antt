@@ -8,9 +8,6 @@ use Rattle.std.proofs.lemmas.List.{take_at, drop_at, drop_all}
 pub two : (f b r : List ℕ) (i n : ℕ) → length f ≡ i → length r ≤ n → put_mid i n (f ++ r) b ≡ f ++ b
 two f b r i n e h = ap₂ ◌++◌ (take_at f r i e) (ap (λ z. b ++ drop n z) (drop_at f r i e) ∙ ap (λ z. b ++ z) (drop_all n r h) ∙ append-nil b)
 
-pub two_rest : (f b r : List ℕ) → put_mid (length f) (length (f ++ r) - length f) (f ++ r) b ≡ f ++ b
-two_rest f b r = two f b r (length f) (length (f ++ r) - length f) refl (simp length-append (omega arith))
-
 set_behind : (f r : List ℕ) (x y : ℕ) → set (f ++ (x ∷ r)) (length f) y ≡ (f ++ (y ∷ [])) ++ r
 set_behind [] r x y = refl
 set_behind (c ∷ f) r x y = ap (λ l. c ∷ l) (set_behind f r x y)

@@ -1,21 +1,16 @@
 -- Tests of each byte, and small facts about tests and options.
 use Rattle.std.specs.Prelude.{◌≡◌, ℕ, Bool, true, false, cond, ◌&&◌, List, [], ◌∷◌, ◌++◌, length, Some, None, Option, nat_le, refl}
+use Rattle.std.specs.List.{list_all}
 use Rattle.std.proofs.Common.{arith, leb-true}
+use Rattle.kind.specs.Options.{never}
 
 -- each byte lies from low to high
 abbrev pub within : ℕ → ℕ → List ℕ → Bool
-within low high [] = true
-within low high (c ∷ s) = (nat_le low c && nat_le c high) && within low high s
+within low high s = list_all (λ c. nat_le low c && nat_le c high) s
 
 -- each byte is a space
 abbrev pub spaces : List ℕ → Bool
 spaces s = within 32 32 s
-
-pub never : {A : Type 0} {v : A} {P : Type 0} → None ≡ Some v → P
-never e = let z : ◌≡◌ {A = ℕ} 0 1 = cc in let bad : ⊥ = omega arith in elim bad [ ]
-
-pub some_is : {A : Type 0} {x v : A} → Some x ≡ Some v → x ≡ v
-some_is e = cc
 
 -- what a test lets through
 pub gate : {A : Type 0} (b : Bool) {x : Option A} {v : A} → cond b x None ≡ Some v → (b ≡ true) × (x ≡ Some v)

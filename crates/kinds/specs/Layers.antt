@@ -5,7 +5,8 @@ use Rattle.kind.specs.Kinds.{Laws}
 use Rattle.kinds.specs.declared.layers.Both.{Both}
 use Rattle.kinds.specs.declared.layers.Either.{Either}
 use Rattle.kinds.specs.declared.layers.Either.TheVariants.{First, Second}
-use Rattle.kinds.specs.Bytes.{spaces, never, gate, and_parts, spaces_same}
+use Rattle.kind.specs.Options.{never}
+use Rattle.kinds.specs.Bytes.{spaces, gate, and_parts, spaces_same}
 
 -- Blank: all spaces are absent, and anything else is what the kind below says.
 abbrev pub present : {V : Type 0} → Option V → Option (Option V)

@@ -6,5 +6,4 @@ pub mod Numbers
 pub mod Texts
 pub mod Points
 pub mod Signs
-pub mod Naming
 pub mod Listing

@@ -1,9 +1,10 @@
 -- Values that each have a spelling, and reading one of a list by its spelling.
-use Rattle.std.specs.Prelude.{◌≡◌, ℕ, ◌≤◌, Bool, true, false, cond, List, [], ◌∷◌, length, Some, None, Option, refl}
+use Rattle.std.specs.Prelude.{◌≡◌, ℕ, ◌≤◌, Bool, true, false, cond, List, [], ◌∷◌, length, Some, Option, refl}
 use Rattle.std.proofs.Common.{sym, ◌∙◌, ap}
+use Rattle.std.specs.List.{find}
 use Rattle.std.specs.Str.{bytes_eq}
 use Rattle.kind.specs.Kinds.{Laws}
-use Rattle.kinds.specs.Bytes.{never, some_is}
+use Rattle.kind.specs.Options.{never, some_is}
 use Rattle.kinds.specs.Texts.{same_is}
 
 -- spellings of one width, from 1 to 999, no two values with the same
@@ -15,8 +16,7 @@ pub record Spelt {V : Type 0} (w : ℕ) (letters : V → List ℕ) : Type 0 wher
 
 -- the first value of a list that has the spelling s
 abbrev pub listed : {V : Type 0} → (V → List ℕ) → List V → List ℕ → Option V
-listed letters [] s = None
-listed letters (v ∷ vs) s = cond (bytes_eq s (letters v)) (Some v) (listed letters vs s)
+listed letters vs s = find (λ v. bytes_eq s (letters v)) vs
 
 pub listed_is : {V : Type 0} (letters : V → List ℕ) (vs : List V) (s : List ℕ) (v : V) → listed letters vs s ≡ Some v → s ≡ letters v
 listed_is letters [] s v e = never e

@@ -3,7 +3,7 @@ use Rattle.std.specs.Prelude.{◌≡◌, ℕ, List, Some, None, Ok, Err, Option,
 use Rattle.std.proofs.Common.{sym, ◌∙◌, ap}
 use Rattle.refusal.specs.declared.fault.Fault.{Fault}
 use Rattle.kind.specs.Kinds.{Laws, Spelled}
-use Rattle.kinds.specs.Bytes.{never}
+use Rattle.kind.specs.Options.{never}
 
 abbrev pub chain : {V U : Type 0} → Option V → (V → Option U) → Option U
 chain None h = None

@@ -2,7 +2,8 @@
 use Rattle.std.specs.Prelude.{◌≡◌, ℕ, ◌^◌, ◌<◌, ◌≤◌, Bool, true, cond, ◌&&◌, List, length, Some, None, Option, ◌==◌, nat_le, refl}
 use Rattle.std.proofs.Common.{sym, ◌∙◌, ap, subst, arith, eqb-true, leb-true, le-leb, eq-eqb}
 use Rattle.kind.specs.Kinds.{Laws}
-use Rattle.kinds.specs.Bytes.{and_parts, gate, some_is}
+use Rattle.kind.specs.Options.{some_is}
+use Rattle.kinds.specs.Bytes.{and_parts, gate}
 use Rattle.kinds.specs.Digits.{figures, value, digits, value_lt, value_once, value_digits, figures_digits, length_digits}
 
 abbrev pub is_number : ℕ → ℕ → ℕ → List ℕ → Bool

@@ -5,7 +5,8 @@ use Rattle.std.proofs.Math.Seq.{split_at}
 use Rattle.std.proofs.lemmas.List.{take_at, drop_at}
 use Rattle.kind.specs.Kinds.{Laws}
 use Rattle.kinds.specs.declared.point.Decimal.{Decimal}
-use Rattle.kinds.specs.Bytes.{and_parts, gate, some_is, never, within_parts, within_both}
+use Rattle.kind.specs.Options.{some_is, never}
+use Rattle.kinds.specs.Bytes.{and_parts, gate, within_parts, within_both}
 use Rattle.kinds.specs.Digits.{figures, value, digits, value_append, value_digits, figures_digits, length_digits, ten_pos}
 use Rattle.kinds.specs.Numbers.{number, number_is, number_from, number_under, number_laws}
 

@@ -3,7 +3,7 @@ use Rattle.std.specs.Prelude.{◌≡◌, ℕ, zero, suc, ◌+◌, ◌≤◌, Boo
 use Rattle.std.proofs.Common.{sym, ◌∙◌, ap, inl, inr, arith, eqb-true}
 use Rattle.std.proofs.Math.IntN.{neg_ℤ-neg_ℤ}
 use Rattle.kind.specs.Kinds.{Laws}
-use Rattle.kinds.specs.Bytes.{never, some_is}
+use Rattle.kind.specs.Options.{never, some_is}
 use Rattle.kinds.specs.Numbers.{number, number_is, number_laws}
 
 abbrev pub plus : Option ℕ → Option ℤ

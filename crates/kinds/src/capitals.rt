@@ -12,9 +12,10 @@ use refusal::fault::Fault;
 fn are_capitals(width: usize, s: &[u8]) -> bool
     ensures { result ≡ is_capitals width s.now }
 {
-    s.len() == width && each_within(s, 65, 90)
+    s.len() == width && each_within(s, b'A', b'Z')
 }
 
+// Beside Text: the functions differ by the test and by the type of value, and one impl over both would need a trait for the two.
 impl<'a> Kind<'a> for Capitals {
     type Value = Letters<'a>;
 
@@ -44,9 +45,7 @@ impl<'a> Kind<'a> for Capitals {
         }
     }
 
-    fn read(&self, s: &'a [u8]) -> Result<Letters<'a>, Fault>
-        ensures { Told (λ v. v.0.now) (capitals self.now.width) s.now result }
-    {
+    fn read(&self, s: &'a [u8]) -> Result<Letters<'a>, Fault> {
         if are_capitals(self.width, s) {
             Ok(Letters(s))
         } else {
@@ -54,9 +53,7 @@ impl<'a> Kind<'a> for Capitals {
         }
     }
 
-    fn spell(&self, value: &Letters<'a>, out: &mut [u8]) -> Result<(), Fault>
-        ensures { Spelled (capitals self.now.width) value.now.0.now out.old out.new result }
-    {
+    fn spell(&self, value: &Letters<'a>, out: &mut [u8]) -> Result<(), Fault> {
         if out.len() != self.width || !are_capitals(self.width, value.0) {
             return Err(no_reading());
         }

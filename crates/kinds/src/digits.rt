@@ -5,6 +5,8 @@ ghost use Rattle.kinds.specs.Numbers.{number};
 use super::number::Number;
 use super::scan::each_within;
 
+// Here digits are at most 18, so that they fit 64 bits; each function says so of a slice of its own.
+
 // The number that digits say.
 pub(crate) fn value_of(s: &[u8]) -> u64
     requires plain { figures s.now ≡ true }
@@ -12,8 +14,8 @@ pub(crate) fn value_of(s: &[u8]) -> u64
     ensures { result ≡ value s.now }
 {
     let mut sum = 0;
-    for i in 0..s.len() {
-        sum = sum * 10 + (s[i] - 48) as u64;
+    for b in s {
+        sum = sum * 10 + u64::from(*b - b'0');
     }
     sum
 }
@@ -34,11 +36,12 @@ pub(crate) fn put_digits(n: u64, out: &mut [u8])
     requires short { length out.old ≤ 18 }
     ensures { out.new ≡ digits (length out.old) n }
 {
+    let width = out.len();
     let mut rest = n;
-    for i in 0..out.len() {
-        let power = 10u64.pow((out.len() - 1 - i) as u32);
-        out[i] = 48 + (rest / power) as u8;
-        rest = rest % power;
+    for (i, byte) in out.iter_mut().enumerate() {
+        let power = 10u64.pow((width - 1 - i) as u32);
+        *byte = b'0' + (rest / power) as u8;
+        rest %= power;
     }
 }
 
@@ -46,7 +49,7 @@ pub(crate) fn put_digits(n: u64, out: &mut [u8])
 pub(crate) fn number_in(k: &Number, s: &[u8]) -> Option<u64>
     ensures { result ≡ number k.now.width k.now.low k.now.high s.now }
 {
-    if s.len() != k.width || !each_within(s, 48, 57) {
+    if s.len() != k.width || !each_within(s, b'0', b'9') {
         return None;
     }
     let n = value_of(s);

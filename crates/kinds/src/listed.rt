@@ -39,14 +39,10 @@ pub struct Codes<L> {
 fn find<L: Listed>(list: &L, s: &[u8]) -> Option<L::Code>
     ensures { result ≡ listed L.Listed.letters (L.Listed.every list.now) s.now }
 {
-    let codes = list.every();
-    for i in 0..codes.len() {
-        let code = codes[i];
-        if same(s, list.letters(code)) {
-            return Some(code);
-        }
-    }
-    None
+    list.every()
+        .iter()
+        .copied()
+        .find(|code| same(s, list.letters(*code)))
 }
 
 impl<'a, L: Listed> Kind<'a> for Codes<L> {
@@ -62,37 +58,25 @@ impl<'a, L: Listed> Kind<'a> for Codes<L> {
 
     ghost laws = { λ k. listed_laws L.Listed.spelt (L.Listed.every k.list) };
 
-    fn width(&self) -> usize
-        ensures { result ≡ L.Listed.span }
-    {
+    fn width(&self) -> usize {
         self.list.span()
     }
 
-    fn check(&self, s: &[u8]) -> Result<(), Fault>
-        ensures { Checked (listed L.Listed.letters (L.Listed.every self.now.list)) s.now result }
-    {
-        match find(&self.list, s) {
-            Some(_) => Ok(()),
-            None => Err(no_reading()),
-        }
+    fn check(&self, s: &[u8]) -> Result<(), Fault> {
+        find(&self.list, s).ok_or(no_reading())?;
+        Ok(())
     }
 
-    fn read(&self, s: &'a [u8]) -> Result<L::Code, Fault>
-        ensures { Told (λ v. v) (listed L.Listed.letters (L.Listed.every self.now.list)) s.now result }
-    {
-        match find(&self.list, s) {
-            Some(e) => Ok(e),
-            None => Err(no_reading()),
-        }
+    fn read(&self, s: &'a [u8]) -> Result<L::Code, Fault> {
+        find(&self.list, s).ok_or(no_reading())
     }
 
-    fn spell(&self, value: &L::Code, out: &mut [u8]) -> Result<(), Fault>
-        ensures { Spelled (listed L.Listed.letters (L.Listed.every self.now.list)) value.now out.old out.new result }
-    {
+    fn spell(&self, value: &L::Code, out: &mut [u8]) -> Result<(), Fault> {
         let letters = self.list.letters(*value);
         if out.len() != letters.len() {
             return Err(no_reading());
         }
+        // A match: tried with ok_or and `?`, where the proof no longer sees what the search found.
         match find(&self.list, letters) {
             Some(_) => {
                 out.copy_from_slice(letters);

@@ -9,3 +9,10 @@ pub struct Number {
     ghost some: { 1 ≤ width },
     ghost few: { width ≤ 18 },
 }
+
+// 00 to 59, as minutes and seconds are.
+pub const SIXTY: Number = Number {
+    width: 2,
+    low: 0,
+    high: 59,
+};

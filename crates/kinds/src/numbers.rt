@@ -21,33 +21,20 @@ impl<'a> Kind<'a> for Number {
 
     ghost laws = { λ k. number_laws k.width k.low k.high k.some k.few };
 
-    fn width(&self) -> usize
-        ensures { result ≡ self.now.width }
-    {
+    fn width(&self) -> usize {
         self.width
     }
 
-    fn check(&self, s: &[u8]) -> Result<(), Fault>
-        ensures { Checked (number self.now.width self.now.low self.now.high) s.now result }
-    {
-        match number_in(self, s) {
-            Some(_) => Ok(()),
-            None => Err(no_reading()),
-        }
+    fn check(&self, s: &[u8]) -> Result<(), Fault> {
+        number_in(self, s).ok_or(no_reading())?;
+        Ok(())
     }
 
-    fn read(&self, s: &'a [u8]) -> Result<u64, Fault>
-        ensures { Told (λ v. v) (number self.now.width self.now.low self.now.high) s.now result }
-    {
-        match number_in(self, s) {
-            Some(n) => Ok(n),
-            None => Err(no_reading()),
-        }
+    fn read(&self, s: &'a [u8]) -> Result<u64, Fault> {
+        number_in(self, s).ok_or(no_reading())
     }
 
-    fn spell(&self, value: &u64, out: &mut [u8]) -> Result<(), Fault>
-        ensures { Spelled (number self.now.width self.now.low self.now.high) value.now out.old out.new result }
-    {
+    fn spell(&self, value: &u64, out: &mut [u8]) -> Result<(), Fault> {
         let n = *value;
         if out.len() != self.width
             || n < self.low

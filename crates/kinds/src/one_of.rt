@@ -16,12 +16,7 @@ pub struct OneOf {
 fn is_among(byte: u8, list: &[u8]) -> bool
     ensures { result ≡ among byte list.now }
 {
-    for i in 0..list.len() {
-        if list[i] == byte {
-            return true;
-        }
-    }
-    false
+    list.contains(&byte)
 }
 
 // The byte of the list that the bytes are.
@@ -48,33 +43,20 @@ impl<'a> Kind<'a> for OneOf {
 
     ghost laws = { λ k. one_of_laws k.bytes.now };
 
-    fn width(&self) -> usize
-        ensures { result ≡ 1 }
-    {
+    fn width(&self) -> usize {
         1
     }
 
-    fn check(&self, s: &[u8]) -> Result<(), Fault>
-        ensures { Checked (one_of self.now.bytes.now) s.now result }
-    {
-        match byte_in(self.bytes, s) {
-            Some(_) => Ok(()),
-            None => Err(no_reading()),
-        }
+    fn check(&self, s: &[u8]) -> Result<(), Fault> {
+        byte_in(self.bytes, s).ok_or(no_reading())?;
+        Ok(())
     }
 
-    fn read(&self, s: &'a [u8]) -> Result<u8, Fault>
-        ensures { Told (λ v. v) (one_of self.now.bytes.now) s.now result }
-    {
-        match byte_in(self.bytes, s) {
-            Some(c) => Ok(c),
-            None => Err(no_reading()),
-        }
+    fn read(&self, s: &'a [u8]) -> Result<u8, Fault> {
+        byte_in(self.bytes, s).ok_or(no_reading())
     }
 
-    fn spell(&self, value: &u8, out: &mut [u8]) -> Result<(), Fault>
-        ensures { Spelled (one_of self.now.bytes.now) value.now out.old out.new result }
-    {
+    fn spell(&self, value: &u8, out: &mut [u8]) -> Result<(), Fault> {
         if out.len() != 1 || !is_among(*value, self.bytes) {
             return Err(no_reading());
         }

@@ -16,12 +16,12 @@ fn point_in(k: &Point, s: &[u8]) -> Option<Decimal>
     ensures { result ≡ point k.now.whole k.now.places k.now.low k.now.high s.now }
 {
     let at = k.whole;
-    if s.len() != at + 1 + k.places || s[at] != 46 {
+    if s.len() != at + 1 + k.places || s[at] != b'.' {
         return None;
     }
     let front = &s[0..at];
     let back = &s[at + 1..];
-    if !each_within(front, 48, 57) || !each_within(back, 48, 57) {
+    if !each_within(front, b'0', b'9') || !each_within(back, b'0', b'9') {
         return None;
     }
     let n = value_of_two(front, back);
@@ -43,7 +43,7 @@ fn put_point(front: u64, back: u64, at: usize, out: &mut [u8])
     ensures { out.new ≡ digits at front ++ (46 ∷ digits (length out.old - (at + 1)) back) }
 {
     put_digits(front, &mut out[0..at]);
-    out[at] = 46;
+    out[at] = b'.';
     put_digits(back, &mut out[at + 1..]);
 }
 
@@ -60,33 +60,20 @@ impl<'a> Kind<'a> for Point {
 
     ghost laws = { λ k. point_laws k.whole k.places k.low k.high k.some k.few };
 
-    fn width(&self) -> usize
-        ensures { result ≡ self.now.whole + 1 + self.now.places }
-    {
+    fn width(&self) -> usize {
         self.whole + 1 + self.places
     }
 
-    fn check(&self, s: &[u8]) -> Result<(), Fault>
-        ensures { Checked (point self.now.whole self.now.places self.now.low self.now.high) s.now result }
-    {
-        match point_in(self, s) {
-            Some(_) => Ok(()),
-            None => Err(no_reading()),
-        }
+    fn check(&self, s: &[u8]) -> Result<(), Fault> {
+        point_in(self, s).ok_or(no_reading())?;
+        Ok(())
     }
 
-    fn read(&self, s: &'a [u8]) -> Result<Decimal, Fault>
-        ensures { Told (λ v. v) (point self.now.whole self.now.places self.now.low self.now.high) s.now result }
-    {
-        match point_in(self, s) {
-            Some(d) => Ok(d),
-            None => Err(no_reading()),
-        }
+    fn read(&self, s: &'a [u8]) -> Result<Decimal, Fault> {
+        point_in(self, s).ok_or(no_reading())
     }
 
-    fn spell(&self, value: &Decimal, out: &mut [u8]) -> Result<(), Fault>
-        ensures { Spelled (point self.now.whole self.now.places self.now.low self.now.high) value.now out.old out.new result }
-    {
+    fn spell(&self, value: &Decimal, out: &mut [u8]) -> Result<(), Fault> {
         let n = value.digits;
         let at = self.whole;
         if out.len() != at + 1 + self.places

@@ -1,4 +1,4 @@
-ghost use Rattle.std.specs.Prelude.{◌≡◌, ◌+◌, ◌^◌, ◌<◌, ℤ, pos, neg_ℤ, unsigned_abs};
+ghost use Rattle.std.specs.Prelude.{◌≡◌, ◌+◌, ◌^◌, ◌<◌, ℤ, pos, neg_ℤ};
 ghost use Rattle.kind.specs.Kinds.{Told, Checked, Spelled};
 ghost use Rattle.kinds.specs.Numbers.{number};
 ghost use Rattle.kinds.specs.Signs.{led, signed, signed_laws};
@@ -10,6 +10,7 @@ use super::sign::Signed;
 use kind::Kind;
 use refusal::fault::Fault;
 
+// The casts are functions, so that what a cast of 64 bits gives is shown once and not in each branch.
 fn plus_of(n: u64) -> i64
     requires { n < 10 ^ 18 }
     ensures { result ≡ pos n }
@@ -24,26 +25,13 @@ fn minus_of(n: u64) -> i64
     -(n as i64)
 }
 
-// The size of a number, without its sign.
-fn size_of(v: i64) -> u64
-    ensures { result ≡ unsigned_abs v }
-{
-    if v < 0 {
-        (-(v + 1)) as u64 + 1
-    } else {
-        v as u64
-    }
-}
-
-// The number with a sign that the bytes read as.
+// The number with a sign that the bytes read as. The sizes are written out: as methods (tried) they have contracts that each
+// proof must first take apart.
 fn signed_in(k: &Signed, s: &[u8]) -> Option<i64>
     ensures { result ≡ signed k.now.digits k.now.below k.now.above s.now }
 {
-    if s.len() == 0 {
-        return None;
-    }
-    let size = &s[1..];
-    if s[0] == 43 {
+    let (sign, size) = s.split_first()?;
+    if *sign == b'+' {
         let n = number_in(
             &Number {
                 width: k.digits,
@@ -53,7 +41,7 @@ fn signed_in(k: &Signed, s: &[u8]) -> Option<i64>
             size,
         )?;
         Some(plus_of(n))
-    } else if s[0] == 45 {
+    } else if *sign == b'-' {
         let n = number_in(
             &Number {
                 width: k.digits,
@@ -94,38 +82,25 @@ impl<'a> Kind<'a> for Signed {
 
     ghost laws = { λ k. signed_laws k.digits k.below k.above k.some k.few };
 
-    fn width(&self) -> usize
-        ensures { result ≡ self.now.digits + 1 }
-    {
+    fn width(&self) -> usize {
         self.digits + 1
     }
 
-    fn check(&self, s: &[u8]) -> Result<(), Fault>
-        ensures { Checked (signed self.now.digits self.now.below self.now.above) s.now result }
-    {
-        match signed_in(self, s) {
-            Some(_) => Ok(()),
-            None => Err(no_reading()),
-        }
+    fn check(&self, s: &[u8]) -> Result<(), Fault> {
+        signed_in(self, s).ok_or(no_reading())?;
+        Ok(())
     }
 
-    fn read(&self, s: &'a [u8]) -> Result<i64, Fault>
-        ensures { Told (λ v. v) (signed self.now.digits self.now.below self.now.above) s.now result }
-    {
-        match signed_in(self, s) {
-            Some(v) => Ok(v),
-            None => Err(no_reading()),
-        }
+    fn read(&self, s: &'a [u8]) -> Result<i64, Fault> {
+        signed_in(self, s).ok_or(no_reading())
     }
 
-    fn spell(&self, value: &i64, out: &mut [u8]) -> Result<(), Fault>
-        ensures { Spelled (signed self.now.digits self.now.below self.now.above) value.now out.old out.new result }
-    {
+    fn spell(&self, value: &i64, out: &mut [u8]) -> Result<(), Fault> {
         let v = *value;
-        let size = size_of(v);
+        let size = v.unsigned_abs();
         if v < 0 {
             put_signed(
-                45,
+                b'-',
                 &Number {
                     width: self.digits,
                     low: 1,
@@ -136,7 +111,7 @@ impl<'a> Kind<'a> for Signed {
             )
         } else {
             put_signed(
-                43,
+                b'+',
                 &Number {
                     width: self.digits,
                     low: 0,

@@ -3,7 +3,7 @@ ghost use Rattle.kind.specs.Kinds.{Told, Checked, Spelled};
 ghost use Rattle.kinds.specs.Texts.{empty, empty_laws};
 
 use super::refuse::no_reading;
-use super::scan::each_within;
+use super::scan::all_spaces;
 use super::space::Spaces;
 use kind::Kind;
 use refusal::fault::Fault;
@@ -21,35 +21,27 @@ impl<'a> Kind<'a> for Spaces {
 
     ghost laws = { λ k. empty_laws k.width k.some k.few };
 
-    fn width(&self) -> usize
-        ensures { result ≡ self.now.width }
-    {
+    fn width(&self) -> usize {
         self.width
     }
 
-    fn check(&self, s: &[u8]) -> Result<(), Fault>
-        ensures { Checked (empty self.now.width) s.now result }
-    {
-        if s.len() == self.width && each_within(s, 32, 32) {
+    fn check(&self, s: &[u8]) -> Result<(), Fault> {
+        if s.len() == self.width && all_spaces(s) {
             Ok(())
         } else {
             Err(no_reading())
         }
     }
 
-    fn read(&self, s: &'a [u8]) -> Result<(), Fault>
-        ensures { Told (λ v. v) (empty self.now.width) s.now result }
-    {
+    fn read(&self, s: &'a [u8]) -> Result<(), Fault> {
         self.check(s)
     }
 
-    fn spell(&self, value: &(), out: &mut [u8]) -> Result<(), Fault>
-        ensures { Spelled (empty self.now.width) value.now out.old out.new result }
-    {
+    fn spell(&self, value: &(), out: &mut [u8]) -> Result<(), Fault> {
         if out.len() != self.width {
             return Err(no_reading());
         }
-        out.fill(32);
+        out.fill(b' ');
         Ok(())
     }
 }

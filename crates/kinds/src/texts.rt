@@ -3,7 +3,7 @@ ghost use Rattle.kind.specs.Kinds.{Told, Checked, Spelled};
 ghost use Rattle.kinds.specs.Texts.{is_text, text, text_laws};
 
 use super::refuse::no_reading;
-use super::scan::each_within;
+use super::scan::{all_spaces, each_within};
 use super::text::{Text, TextBytes};
 use kind::Kind;
 use refusal::fault::Fault;
@@ -12,7 +12,7 @@ use refusal::fault::Fault;
 fn is_text(width: usize, s: &[u8]) -> bool
     ensures { result ≡ is_text width s.now }
 {
-    s.len() == width && each_within(s, 32, 126) && !each_within(s, 32, 32)
+    s.len() == width && each_within(s, b' ', b'~') && !all_spaces(s)
 }
 
 impl<'a> Kind<'a> for Text {
@@ -44,9 +44,7 @@ impl<'a> Kind<'a> for Text {
         }
     }
 
-    fn read(&self, s: &'a [u8]) -> Result<TextBytes<'a>, Fault>
-        ensures { Told (λ v. v.0.now) (text self.now.width) s.now result }
-    {
+    fn read(&self, s: &'a [u8]) -> Result<TextBytes<'a>, Fault> {
         if is_text(self.width, s) {
             Ok(TextBytes(s))
         } else {
@@ -54,9 +52,7 @@ impl<'a> Kind<'a> for Text {
         }
     }
 
-    fn spell(&self, value: &TextBytes<'a>, out: &mut [u8]) -> Result<(), Fault>
-        ensures { Spelled (text self.now.width) value.now.0.now out.old out.new result }
-    {
+    fn spell(&self, value: &TextBytes<'a>, out: &mut [u8]) -> Result<(), Fault> {
         if out.len() != self.width || !is_text(self.width, value.0) {
             return Err(no_reading());
         }

@@ -5,7 +5,8 @@ use super::layers::Via;
 use kind::Kind;
 use refusal::fault::Fault;
 
-// A type of value that stands one to one for the values of some kind, its parts.
+// A type of value that stands one to one for the values of some kind, its parts. Beside Compound: the kind below is lent and
+// not made anew, so it need not be one that can be copied.
 pub trait Made {
     type Parts: Drop;
 
@@ -39,27 +40,19 @@ impl<'a, K: Kind<'a>, M: Made<Parts = K::Value>> Kind<'a> for Via<K, M> {
 
     ghost laws = { λ k. K.Kind.laws k.below };
 
-    fn width(&self) -> usize
-        ensures { result ≡ K.Kind.wide self.now.below }
-    {
+    fn width(&self) -> usize {
         self.below.width()
     }
 
-    fn check(&self, s: &[u8]) -> Result<(), Fault>
-        ensures { Checked (K.Kind.reads self.now.below) s.now result }
-    {
+    fn check(&self, s: &[u8]) -> Result<(), Fault> {
         self.below.check(s)
     }
 
-    fn read(&self, s: &'a [u8]) -> Result<M::Value, Fault>
-        ensures { Told (λ v. K.Kind.view (M.Made.parts v)) (K.Kind.reads self.now.below) s.now result }
-    {
+    fn read(&self, s: &'a [u8]) -> Result<M::Value, Fault> {
         Ok(self.rule.make(self.below.read(s)?))
     }
 
-    fn spell(&self, value: &M::Value, out: &mut [u8]) -> Result<(), Fault>
-        ensures { Spelled (K.Kind.reads self.now.below) (K.Kind.view (M.Made.parts value.now)) out.old out.new result }
-    {
+    fn spell(&self, value: &M::Value, out: &mut [u8]) -> Result<(), Fault> {
         self.below.spell(&self.rule.split(value), out)
     }
 }

@@ -8,13 +8,14 @@ use super::word::Word;
 use kind::Kind;
 use refusal::fault::Fault;
 
+// == by a name: its contract says the comparison of lists that the definitions use.
 pub fn same(s: &[u8], t: &[u8]) -> bool
     ensures { result ≡ bytes_eq s.now t.now }
 {
     s == t
 }
 
-impl<'a> Kind<'a> for Word {
+impl<'a, 'w> Kind<'a> for Word<'w> {
     type Value = ();
 
     ghost Val = { Unit {0} };
@@ -27,15 +28,11 @@ impl<'a> Kind<'a> for Word {
 
     ghost laws = { λ k. word_laws k.bytes.now k.some k.few };
 
-    fn width(&self) -> usize
-        ensures { result ≡ length self.now.bytes.now }
-    {
+    fn width(&self) -> usize {
         self.bytes.len()
     }
 
-    fn check(&self, s: &[u8]) -> Result<(), Fault>
-        ensures { Checked (word self.now.bytes.now) s.now result }
-    {
+    fn check(&self, s: &[u8]) -> Result<(), Fault> {
         if same(s, self.bytes) {
             Ok(())
         } else {
@@ -43,15 +40,11 @@ impl<'a> Kind<'a> for Word {
         }
     }
 
-    fn read(&self, s: &'a [u8]) -> Result<(), Fault>
-        ensures { Told (λ v. v) (word self.now.bytes.now) s.now result }
-    {
+    fn read(&self, s: &'a [u8]) -> Result<(), Fault> {
         self.check(s)
     }
 
-    fn spell(&self, value: &(), out: &mut [u8]) -> Result<(), Fault>
-        ensures { Spelled (word self.now.bytes.now) value.now out.old out.new result }
-    {
+    fn spell(&self, value: &(), out: &mut [u8]) -> Result<(), Fault> {
         if out.len() != self.bytes.len() {
             return Err(no_reading());
         }

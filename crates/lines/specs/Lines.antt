@@ -1,20 +1,11 @@
 -- The lines of a listing, as bytes.
 use Rattle.std.specs.Prelude.{ℕ, cond, List, [], ◌∷◌, ◌++◌, map, codes, decimal, nat_lt}
 use Rattle.refusal.specs.declared.fault.Fault.{Fault}
-use Rattle.refusal.specs.declared.fault.Layer.{Layer}
-use Rattle.refusal.specs.declared.fault.Layer.TheVariants.{Area, Record, Field, Form}
-use Rattle.refusal.specs.Faults.{number, layer}
+use Rattle.refusal.specs.Faults.{number, layer, layer_number}
 
 -- a byte as it is printed: itself from 0x20 to 0x7E, a question mark otherwise
 abbrev pub shown : ℕ → ℕ
 shown b = cond (nat_lt b 32) 63 (cond (nat_lt b 127) b 63)
-
--- the number of a layer
-abbrev pub layer_number : Layer → ℕ
-layer_number Area = 1
-layer_number Record = 2
-layer_number Field = 3
-layer_number Form = 4
 
 -- a word and three numbers in decimal, a space before each
 abbrev pub three : List ℕ → ℕ → ℕ → ℕ → List ℕ

@@ -2,10 +2,12 @@
 
 // The lines of a listing. Each is text of its own, with no newline in it.
 ghost use Rattle.std.specs.Prelude.{◌≡◌, map, IfOk, string_bytes, OnOk};
-ghost use Rattle.lines.specs.Lines.{shown, three, bracketed, with_line, record_line, field_line, end_line, layer_number, refusal_line};
+ghost use Rattle.lines.specs.Lines.{shown, three, bracketed, with_line, record_line, field_line, end_line, refusal_line};
 
-use refusal::fault::{Fault, Layer};
+use refusal::fault::Fault;
 use std::alloc::{AllocError, Global};
+
+// Functions, and no Display: a line is of several values, and its text is the listing's own.
 
 // Of a record: its number, the place of its header, the length of its data, its tag in brackets.
 pub fn record_line(
@@ -45,7 +47,7 @@ pub fn refusal_line(heap: Global, fault: Fault) -> Result<String, AllocError>
     ensures { IfOk result (λ s. string_bytes s ≡ refusal_line fault) }
 {
     let number = fault.cause.number();
-    let layer = layer_number(fault.cause.layer());
+    let layer = u8::from(fault.cause.layer());
     numbers(
         heap,
         "X",
@@ -102,11 +104,4 @@ fn printable(byte: u8) -> char
         0x20..=0x7E => byte as char,
         _ => '?',
     }
-}
-
-// The number that a layer goes by.
-fn layer_number(layer: Layer) -> u8
-    ensures { result ≡ layer_number layer }
-{
-    layer as u8
 }

@@ -1,7 +1,6 @@
 -- What reads is not refused.
-use Rattle.std.proofs.Common.{◌≡◌, ℕ, ◌+◌, ◌<◌, ◌≤◌, Bool, true, false, List, [], ◌++◌, length, None, sym, refl, ap, ◌∙◌, subst, append_assoc, append-nil, arith, length-append}
-use Rattle.book.specs.Meaning.{Meaning, Laws}
-use Rattle.book.specs.declared.answer.Answer.TheVariants.{Done, Field}
+use Rattle.std.proofs.Common.{◌≡◌, ℕ, ◌+◌, ◌<◌, ◌≤◌, Bool, true, false, List, [], ◌++◌, length, None, sym, refl, ap, ◌∙◌, subst, append_assoc, append-nil, arith, length-append, Some}
+use Rattle.book.specs.Meaning.{Meaning, Laws, field}
 use Rattle.refusal.specs.declared.fault.Fault.{Fault}
 use Rattle.model.specs.Records.{Record, TableField, TableRow, GoodTag, Fields, Begun, Full, AllWhole, joined, digits5, record_of, written}
 use Rattle.model.specs.Records.Fields.{none, next}
@@ -11,7 +10,7 @@ use Rattle.model.specs.Records.AllWhole.{none as no_rows, more}
 use Rattle.model.specs.Walks.{Fails, Refuses}
 use Rattle.model.specs.Walks.Fails.{ends, unread, past, later}
 use Rattle.model.specs.Walks.Refuses.{short, badtag, badlength, cutoff, inside, later as after}
-use Rattle.model.proofs.Lists.{split_same, clash, halt, same_width, both, never, same_number}
+use Rattle.model.proofs.Lists.{split_same, clash, same_width, both, never, same_number}
 use Rattle.model.proofs.Unique.{front}
 
 longest : (s x : List ℕ) → 1 ≤ length s → [] ≡ s ++ x → ⊥
@@ -26,11 +25,11 @@ empty d h e = let l = ap length e in omega arith
 -- where a record may end: a draft anywhere, another where the book is done
 abbrev pub May : {V : Type 0} → Meaning V → Bool → List ℕ → List ℕ → Type 0
 May m true tag p = Unit {0}
-May m false tag p = m.asks tag p ≡ Done
+May m false tag p = m.asks tag p ≡ None
 
-no_end : {V : Type 0} (m : Meaning V) (draft : Bool) (tag p : List ℕ) {n w : ℕ} (d : List ℕ) → m.asks tag p ≡ Field n w → (draft ≡ true → 0 < length d) → d ≡ [] → May m draft tag (p ++ []) → ⊥
+no_end : {V : Type 0} (m : Meaning V) (draft : Bool) (tag p : List ℕ) {n w : ℕ} (d : List ℕ) → m.asks tag p ≡ Some (field n w) → (draft ≡ true → 0 < length d) → d ≡ [] → May m draft tag (p ++ []) → ⊥
 no_end m true tag p d a h e y = empty d (h refl) e
-no_end m false tag p d a h e y = halt (subst (λ x. m.asks tag x ≡ Done) (append-nil p) y) a
+no_end m false tag p d a h e y = clash a (subst (λ x. m.asks tag x ≡ None) (append-nil p) y)
 
 module _ {V : Type 0} {m : Meaning V} (laws : Laws m) where
   pub fails_apart : {draft : Bool} {n base : ℕ} {tag p d : List ℕ} {k : ℕ} {f : Fault} {ss : List (List ℕ)} {fs : List (TableField V)} → Fails m draft n tag base p d k f → Fields m tag p ss fs → d ≡ joined ss → May m draft tag (p ++ joined ss) → ⊥
@@ -41,7 +40,7 @@ module _ {V : Type 0} {m : Meaning V} (laws : Laws m) where
       let z = split_same s s' x (joined ss) (same_width a b) (sym q ∙ e) in
       clash r (subst (λ i. m.reads tag p i ≡ None) z.0 u)
   fails_apart {d = d} (past a h) none e y = empty d h e
-  fails_apart (past a h) (next b r g) e y = halt a b
+  fails_apart (past a h) (next b r g) e y = clash b a
   fails_apart {tag = tag} {p = p} (later {name = nm} s x a q u f) none e y = longest s x (laws.wide tag p nm (length s) a).0 (sym e ∙ q)
   fails_apart {draft} {n = n} {base = base} {tag = tag} {p = p} {f = fault} (later {k = k} s x a q u f) (next {s = s'} {ss = ss} {v = v} b r g) e y =
       let z = split_same s s' x (joined ss) (same_width a b) (sym q ∙ e) in

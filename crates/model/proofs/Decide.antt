@@ -2,9 +2,8 @@
 use Rattle.std.proofs.Common.{◌≡◌, ℕ, zero, suc, ◌+◌, ◌<◌, ◌≤◌, true, false, ◌⊎◌, List, [], ◌∷◌, ◌++◌, length, get_or, take, drop, Some, None, Option, sym, refl, ap, ◌∙◌, subst, inl, inr, append_assoc, append-nil, arith, length-drop, take-append-drop, length-take-le}
 use Rattle.std.proofs.lemmas.Bool.{cases_eq, cases_lt}
 use Rattle.std.proofs.lemmas.List.{nil_from_length}
-use Rattle.book.specs.Meaning.{Meaning, Laws}
-use Rattle.book.specs.declared.answer.Answer.{Answer}
-use Rattle.book.specs.declared.answer.Answer.TheVariants.{Done, Field}
+use Rattle.book.specs.Meaning.{Meaning, Laws, field}
+use Rattle.book.specs.declared.field.Field.{Field}
 use Rattle.refusal.specs.declared.fault.Fault.{Fault}
 use Rattle.refusal.specs.declared.fault.Cause.TheVariants.{Unread, EndsEarly, PastDone}
 use Rattle.refusal.specs.Faults.{fault}
@@ -71,42 +70,42 @@ pub record Cut {V : Type 0} (m : Meaning V) (tag p d : List ℕ) : Type 0 where
   pub fields : List (TableField V)
   pub are : Fields m tag p spellings fields
   pub bytes : joined spellings ≡ d
-  pub done : m.asks tag (p ++ joined spellings) ≡ Done
+  pub done : m.asks tag (p ++ joined spellings) ≡ None
 
 abbrev pub Told : {V : Type 0} → Meaning V → ℕ → List ℕ → ℕ → List ℕ → List ℕ → ℕ → Type 0
 Told m n tag base p d k = Cut m tag p d ⊎ ((f : Fault) × Fails m false n tag base p d k f)
 
 module _ {V : Type 0} {m : Meaning V} (laws : Laws m) (n : ℕ) (tag : List ℕ) (base : ℕ) where
-  mutual_step : (p d : List ℕ) (k name w : ℕ) → m.asks tag p ≡ Field name w → w ≤ length d → ((v : V) → m.reads tag p (take w d) ≡ Some v → Told m n tag base (p ++ take w d) (drop w d) (k + 1)) → (o : Option V) → m.reads tag p (take w d) ≡ o → Told m n tag base p d k
+  mutual_step : (p d : List ℕ) (k name w : ℕ) → m.asks tag p ≡ Some (field name w) → w ≤ length d → ((v : V) → m.reads tag p (take w d) ≡ Some v → Told m n tag base (p ++ take w d) (drop w d) (k + 1)) → (o : Option V) → m.reads tag p (take w d) ≡ o → Told m n tag base p d k
   mutual_step p d k name w a h go None e =
       let l : length (take w d) ≡ w = length-take-le w d h in
-      inr (fault Unread (base + length p) n k, unread {name = name} (take w d) (drop w d) (a ∙ ap (Field name) (sym l)) (sym (take-append-drop w d)) e)
+      inr (fault Unread (base + length p) n k, unread {name = name} (take w d) (drop w d) (a ∙ ap (λ z. Some (field name z)) (sym l)) (sym (take-append-drop w d)) e)
   mutual_step p d k name w a h go (Some v) e =
       let l : length (take w d) ≡ w = length-take-le w d h in
       elim (go v e) [
         | inl c ↦ inl (record {
           spellings = take w d ∷ c.spellings;
           fields = record { name = name; value = read v } ∷ c.fields;
-          are = next (a ∙ ap (Field name) (sym l)) e c.are;
+          are = next (a ∙ ap (λ z. Some (field name z)) (sym l)) e c.are;
           bytes = ap (λ x. take w d ++ x) c.bytes ∙ take-append-drop w d;
-          done = subst (λ x. m.asks tag x ≡ Done) (append_assoc p (take w d) (joined c.spellings)) c.done;
+          done = subst (λ x. m.asks tag x ≡ None) (append_assoc p (take w d) (joined c.spellings)) c.done;
         })
-        | inr f ↦ inr (f.0, later {name = name} {v = v} (take w d) (drop w d) (a ∙ ap (Field name) (sym l)) (sym (take-append-drop w d)) e f.1)
+        | inr f ↦ inr (f.0, later {name = name} {v = v} (take w d) (drop w d) (a ∙ ap (λ z. Some (field name z)) (sym l)) (sym (take-append-drop w d)) e f.1)
       ]
 
-  pub told : (fuel : ℕ) (p d : List ℕ) (k : ℕ) → length d ≤ fuel → (x : Answer) → m.asks tag p ≡ x → Told m n tag base p d k
-  told fuel p d k h Done e =
+  pub told : (fuel : ℕ) (p d : List ℕ) (k : ℕ) → length d ≤ fuel → (x : Option Field) → m.asks tag p ≡ x → Told m n tag base p d k
+  told fuel p d k h None e =
       elim (cases_lt 0 (length d)) [
         | inl l ↦ inr (fault PastDone (base + length p) n 0, past e l)
         | inr l ↦ let nil : d ≡ [] = nil_from_length d (omega arith) in
-            inl (record { spellings = []; fields = []; are = none; bytes = sym nil; done = subst (λ x. m.asks tag x ≡ Done) (sym (append-nil p)) e })
+            inl (record { spellings = []; fields = []; are = none; bytes = sym nil; done = subst (λ x. m.asks tag x ≡ None) (sym (append-nil p)) e })
       ]
-  told zero p d k h (Field name w) e =
-      let v = (laws.wide tag p name w e).0 in
-      inr (fault EndsEarly (base + length p) n k, ends {name = name} {w = w} e (omega arith) (λ z. never (clash_bool z)))
-  told (suc fuel) p d k h (Field name w) e =
-      let v = (laws.wide tag p name w e).0 in
-      elim (cases_lt (length d) w) [
-        | inl l ↦ inr (fault EndsEarly (base + length p) n k, ends {name = name} {w = w} e l (λ z. never (clash_bool z)))
-        | inr l ↦ mutual_step p d k name w e l (λ u r. told fuel (p ++ take w d) (drop w d) (k + 1) (let q = length-drop w d in omega arith) (m.asks tag (p ++ take w d)) refl) (m.reads tag p (take w d)) refl
+  told zero p d k h (Some x) e =
+      let v = (laws.wide tag p x.name x.width e).0 in
+      inr (fault EndsEarly (base + length p) n k, ends {name = x.name} {w = x.width} e (omega arith) (λ z. never (clash_bool z)))
+  told (suc fuel) p d k h (Some x) e =
+      let v = (laws.wide tag p x.name x.width e).0 in
+      elim (cases_lt (length d) x.width) [
+        | inl l ↦ inr (fault EndsEarly (base + length p) n k, ends {name = x.name} {w = x.width} e l (λ z. never (clash_bool z)))
+        | inr l ↦ mutual_step p d k x.name x.width e l (λ u r. told fuel (p ++ take x.width d) (drop x.width d) (k + 1) (let q = length-drop x.width d in omega arith) (m.asks tag (p ++ take x.width d)) refl) (m.reads tag p (take x.width d)) refl
       ]

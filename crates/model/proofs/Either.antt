@@ -1,9 +1,8 @@
 -- All bytes read as a table, or are refused.
-use Rattle.std.proofs.Common.{◌≡◌, ℕ, zero, suc, ◌+◌, ◌-◌, ◌<◌, ◌≤◌, Bool, true, false, ◌⊎◌, List, [], ◌∷◌, ◌++◌, length, take, drop, sym, refl, ap, ◌∙◌, subst, inl, inr, arith, length-drop}
+use Rattle.std.proofs.Common.{◌≡◌, ℕ, zero, suc, ◌+◌, ◌-◌, ◌<◌, ◌≤◌, Bool, true, false, ◌⊎◌, List, [], ◌∷◌, ◌++◌, length, take, drop, sym, refl, ap, ◌∙◌, subst, inl, inr, arith, length-drop, None}
 use Rattle.std.proofs.lemmas.Bool.{cases_lt}
 use Rattle.std.proofs.lemmas.List.{nil_from_length}
 use Rattle.book.specs.Meaning.{Meaning, Laws}
-use Rattle.book.specs.declared.answer.Answer.TheVariants.{Done}
 use Rattle.refusal.specs.declared.fault.Fault.{Fault}
 use Rattle.refusal.specs.declared.fault.Cause.TheVariants.{CutOff, BadTag, BadLength}
 use Rattle.model.specs.declared.seen.Read.{Read}
@@ -57,7 +56,7 @@ module _ {V : Type 0} (m : Meaning V) (laws : Laws m) where
         | inl c ↦
             let st : List ℕ → List ℕ → Unit {0} → Type 0 = λ x y z. Unit {0} in
             let r : Read (Unit {0}) = record { mark = tt; count = length c.spellings } in
-            let x : Fielded m st false (take 6 a) d r = record { known = k; spellings = c.spellings; fields = c.fields; are = c.are; bytes = c.bytes; count = refl; mark = tt; done = λ z. subst (λ i. m.asks (take 6 a) i ≡ Done) c.bytes c.done } in
+            let x : Fielded m st false (take 6 a) d r = record { known = k; spellings = c.spellings; fields = c.fields; are = c.are; bytes = c.bytes; count = refl; mark = tt; done = λ z. subst (λ i. m.asks (take 6 a) i ≡ None) c.bytes c.done } in
             inl (11 + size, known_led m a at n h g size s l x)
       ]
 

@@ -1,8 +1,7 @@
 -- The state of a reading of a record's data, and what each turn does to it.
 use Rattle.std.proofs.Common.{◌≡◌, ℕ, ◌+◌, ◌-◌, ◌<◌, ◌≤◌, Bool, true, false, List, [], ◌∷◌, ◌++◌, length, take, drop, Some, None, sym, refl, ap, ◌∙◌, subst, arith, length-drop, take-append-drop, length-take-le, take_all, drop-drop, take-add}
 use Rattle.std.proofs.lemmas.List.{length_push}
-use Rattle.book.specs.Meaning.{Meaning}
-use Rattle.book.specs.declared.answer.Answer.TheVariants.{Done, Field}
+use Rattle.book.specs.Meaning.{Meaning, field}
 use Rattle.refusal.specs.declared.fault.Fault.{Fault}
 use Rattle.refusal.specs.declared.fault.Cause.TheVariants.{Unread, EndsEarly, PastDone}
 use Rattle.refusal.specs.Faults.{fault}
@@ -36,25 +35,25 @@ module _ {V : Type 0} {m : Meaning V} {draft : Bool} {n base i k : ℕ} {tag d :
   left_over : length (drop i d) ≡ length d - i
   left_over = length-drop i d
 
-  pub stop_past : m.asks tag (take i d) ≡ Done → 0 < length d - i → Fails m draft n tag base [] d 0 (fault PastDone (base + i) n 0)
+  pub stop_past : m.asks tag (take i d) ≡ None → 0 < length d - i → Fails m draft n tag base [] d 0 (fault PastDone (base + i) n 0)
   stop_past e h = s.falls _ (subst (λ x. Fails m draft n tag base (take i d) (drop i d) k (fault PastDone (base + x) n 0)) here (past e (rw left_over h)))
 
-  pub stop_ends : {nm w : ℕ} → m.asks tag (take i d) ≡ Field nm w → length d - i < w → (draft ≡ true → 0 < length d - i) → Fails m draft n tag base [] d 0 (fault EndsEarly (base + i) n k)
+  pub stop_ends : {nm w : ℕ} → m.asks tag (take i d) ≡ Some (field nm w) → length d - i < w → (draft ≡ true → 0 < length d - i) → Fails m draft n tag base [] d 0 (fault EndsEarly (base + i) n k)
   stop_ends {nm} {w} e h q = s.falls _ (subst (λ x. Fails m draft n tag base (take i d) (drop i d) k (fault EndsEarly (base + x) n k)) here (ends {name = nm} {w = w} e (rw left_over h) (λ z. rw left_over (q z))))
 
-  module _ {nm w : ℕ} (e : m.asks tag (take i d) ≡ Field nm w) (h : w ≤ length d - i) where
+  module _ {nm w : ℕ} (e : m.asks tag (take i d) ≡ Some (field nm w)) (h : w ≤ length d - i) where
     cut_length : length (take w (drop i d)) ≡ w
     cut_length = length-take-le w (drop i d) (rw left_over h)
 
-    e' : m.asks tag (take i d) ≡ Field nm (length (take w (drop i d)))
-    e' = e ∙ ap (Field nm) (sym cut_length)
+    e' : m.asks tag (take i d) ≡ Some (field nm (length (take w (drop i d))))
+    e' = e ∙ ap (λ z. Some (field nm z)) (sym cut_length)
 
     pub stop_unread : m.reads tag (take i d) (take w (drop i d)) ≡ None → Fails m draft n tag base [] d 0 (fault Unread (base + i) n k)
     stop_unread r = s.falls _ (subst (λ x. Fails m draft n tag base (take i d) (drop i d) k (fault Unread (base + x) n k)) here (unread {name = nm} (take w (drop i d)) (drop w (drop i d)) e' (sym (take-append-drop w (drop i d))) r))
 
     pub one_more : {v : V} → 1 ≤ w → m.reads tag (take i d) (take w (drop i d)) ≡ Some v → Sofar m draft n tag base d (i + w) (k + 1)
     one_more {v} pos r =
-        let a : m.asks tag (joined s.front) ≡ Field nm (length (take w (drop i d))) = subst (λ x. m.asks tag x ≡ Field nm (length (take w (drop i d)))) (sym s.bytes) e' in
+        let a : m.asks tag (joined s.front) ≡ Some (field nm (length (take w (drop i d)))) = subst (λ x. m.asks tag x ≡ Some (field nm (length (take w (drop i d))))) (sym s.bytes) e' in
         let q : m.reads tag (joined s.front) (take w (drop i d)) ≡ Some v = subst (λ x. m.reads tag x (take w (drop i d)) ≡ Some v) (sym s.bytes) r in
         record {
           within = omega (arith, s.within);
@@ -67,7 +66,7 @@ module _ {V : Type 0} {m : Meaning V} {draft : Bool} {n base i k : ℕ} {tag d :
           falls = λ f x. s.falls f (later {name = nm} {v = v} (take w (drop i d)) (drop w (drop i d)) e' (sym (take-append-drop w (drop i d))) r (rw (← take-add i w d, drop-drop w i d) x));
         }
 
-  pub whole : {M : Type 0} {stands : List ℕ → List ℕ → M → Type 0} {mark : M} → m.knows tag ≡ true → length d - i ≤ 0 → stands tag (take i d) mark → (draft ≡ false → m.asks tag (take i d) ≡ Done) → Fielded m stands draft tag d (record { mark = mark; count = k })
+  pub whole : {M : Type 0} {stands : List ℕ → List ℕ → M → Type 0} {mark : M} → m.knows tag ≡ true → length d - i ≤ 0 → stands tag (take i d) mark → (draft ≡ false → m.asks tag (take i d) ≡ None) → Fielded m stands draft tag d (record { mark = mark; count = k })
   whole {stands = stands} {mark = mark} kn h st dn =
       let e : take i d ≡ d = take_all i d (omega arith) in
       record {
@@ -78,7 +77,7 @@ module _ {V : Type 0} {m : Meaning V} {draft : Bool} {n base i k : ℕ} {tag d :
         bytes = s.bytes ∙ e;
         count = s.counted;
         mark = subst (λ x. stands tag x mark) e st;
-        done = λ z. subst (λ x. m.asks tag x ≡ Done) e (dn z);
+        done = λ z. subst (λ x. m.asks tag x ≡ None) e (dn z);
       }
 
 pub cut : (i w : ℕ) → i + w - i ≡ w

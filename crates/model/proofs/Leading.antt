@@ -2,7 +2,6 @@
 use Rattle.std.proofs.Common.{◌≡◌, ℕ, ◌+◌, ◌-◌, ◌<◌, ◌≤◌, true, false, List, [], ◌∷◌, ◌++◌, length, take, drop, Some, None, Ok, Option, sym, refl, ap, ◌∙◌, subst, ap₂, append_assoc, append-nil, arith, length-append, length-drop, take-append-drop, length-take-le, take_all, drop-drop, take_at, take-add}
 use Rattle.std.proofs.lemmas.List.{length_push}
 use Rattle.book.specs.Meaning.{Meaning}
-use Rattle.book.specs.declared.answer.Answer.TheVariants.{Done}
 use Rattle.refusal.specs.declared.fault.Fault.{Fault}
 use Rattle.refusal.specs.declared.fault.Cause.TheVariants.{CutOff, BadTag, BadLength}
 use Rattle.model.specs.declared.seen.Read.{Read}
@@ -59,7 +58,7 @@ module _ {V : Type 0} (m : Meaning V) (a : List ℕ) (at n : ℕ) (h : 11 ≤ le
       known_led x = record {
         entry = record { tag = take 6 a; spellings = x.spellings };
         row = record { tag = take 6 a; fields = x.fields };
-        whole = record { good = g; begun = known x.known x.are; full = asked x.known (subst (λ i. m.asks (take 6 a) i ≡ Done) (sym x.bytes) (x.done refl)); short = let q = ap length x.bytes ∙ d_long in let z = s.2 in omega arith; named = refl };
+        whole = record { good = g; begun = known x.known x.are; full = asked x.known (subst (λ i. m.asks (take 6 a) i ≡ None) (sym x.bytes) (x.done refl)); short = let q = ap length x.bytes ∙ d_long in let z = s.2 in omega arith; named = refl };
         is = is ∙ ap (λ i. record_of (take 6 a) i ++ drop (11 + size) a) (sym x.bytes);
         long = ap (λ i. 11 + i) (sym (ap length x.bytes ∙ d_long));
       }

@@ -1,8 +1,8 @@
 -- Plain facts of lists and answers.
 use Rattle.std.proofs.Common.{◌≡◌, ℕ, ◌+◌, ◌/◌, ◌%◌, ◌≤◌, Bool, true, false, ◌⊎◌, List, [], ◌∷◌, ◌++◌, length, take, drop, Some, None, Option, sym, refl, ap, ◌∙◌, inl, inr, append_assoc, append-nil, arith, take_at, drop_at}
+use Rattle.book.specs.Meaning.{field}
 use Rattle.std.proofs.lemmas.Bool.{cases_eq}
-use Rattle.book.specs.declared.answer.Answer.{Answer}
-use Rattle.book.specs.declared.answer.Answer.TheVariants.{Done, Field}
+use Rattle.book.specs.declared.field.Field.{Field}
 use Rattle.model.specs.Records.{joined, digits5}
 
 pub split_same : (s t x y : List ℕ) → length s ≡ length t → s ++ x ≡ t ++ y → (s ≡ t) × (x ≡ y)
@@ -14,14 +14,11 @@ split_same s t x y l e = (
 pub clash : {V : Type 0} {x : Option V} {v : V} → x ≡ Some v → x ≡ None → ⊥
 clash p q = let z : ◌≡◌ {A = ℕ} 0 1 = cc in omega arith
 
-pub halt : {x : Answer} {n w : ℕ} → x ≡ Done → x ≡ Field n w → ⊥
-halt p q = let z : ◌≡◌ {A = ℕ} 0 1 = cc in omega arith
+pub same_width : {x : Option Field} {n w k u : ℕ} → x ≡ Some (field n w) → x ≡ Some (field k u) → w ≡ u
+same_width {n = n} {w = w} {k = k} {u = u} p q = let e : field n w ≡ field k u = cc in ap (λ f. f.width) e
 
-pub same_width : {x : Answer} {n w k u : ℕ} → x ≡ Field n w → x ≡ Field k u → w ≡ u
-same_width p q = cc
-
-pub same_name : {x : Answer} {n w k u : ℕ} → x ≡ Field n w → x ≡ Field k u → n ≡ k
-same_name p q = cc
+pub same_name : {x : Option Field} {n w k u : ℕ} → x ≡ Some (field n w) → x ≡ Some (field k u) → n ≡ k
+same_name {n = n} {w = w} {k = k} {u = u} p q = let e : field n w ≡ field k u = cc in ap (λ f. f.name) e
 
 pub both : {b : Bool} → b ≡ true → b ≡ false → ⊥
 both p q = let z : ◌≡◌ {A = ℕ} 0 1 = cc in omega arith

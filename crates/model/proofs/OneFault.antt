@@ -8,7 +8,7 @@ use Rattle.model.specs.Walks.Fails.{ends, unread, past, later}
 use Rattle.model.specs.Walks.Refuses.{short, badtag, badlength, cutoff, inside, later as after}
 use Rattle.model.specs.Ledgers.LookRefuses.{long, walk, badtag as badbegun, draft}
 use Rattle.model.specs.Laws.{OneFault}
-use Rattle.model.proofs.Lists.{split_same, clash, halt, same_width, never, same_number}
+use Rattle.model.proofs.Lists.{split_same, clash, same_width, never, same_number}
 use Rattle.model.proofs.Unique.{one_list}
 use Rattle.refusal.specs.declared.fault.Cause.TheVariants.{CutOff, BadTag, BadLength}
 use Rattle.refusal.specs.Faults.{fault}
@@ -21,21 +21,21 @@ module _ {V : Type 0} {m : Meaning V} where
   pub one_fail : {dr : Bool} {n base : ℕ} {tag p d : List ℕ} {k : ℕ} {f g : Fault} → Fails m dr n tag base p d k f → Fails m dr n tag base p d k g → f ≡ g
   one_fail (ends a l h) (ends b i j) = refl
   one_fail {d = d} (ends a l h) (unread s x b q u) = let w = same_width a b in never (too_short d s x (omega arith) q)
-  one_fail (ends a l h) (past b i) = never (halt b a)
+  one_fail (ends a l h) (past b i) = never (clash a b)
   one_fail {d = d} (ends a l h) (later s x b q u f) = let w = same_width a b in never (too_short d s x (omega arith) q)
   one_fail {d = d} (unread s x b q u) (ends a l h) = let w = same_width a b in never (too_short d s x (omega arith) q)
   one_fail (unread s x b q u) (unread s' x' b' q' u') = refl
-  one_fail (unread s x b q u) (past a h) = never (halt a b)
+  one_fail (unread s x b q u) (past a h) = never (clash b a)
   one_fail {tag = tag} {p = p} (unread s x b q u) (later s' x' b' q' u' f) =
       let z = split_same s s' x x' (same_width b b') (sym q ∙ q') in never (clash u' (subst (λ i. m.reads tag p i ≡ None) z.0 u))
-  one_fail (past a h) (ends b i j) = never (halt a b)
-  one_fail (past a h) (unread s x b q u) = never (halt a b)
+  one_fail (past a h) (ends b i j) = never (clash b a)
+  one_fail (past a h) (unread s x b q u) = never (clash b a)
   one_fail (past a h) (past b i) = refl
-  one_fail (past a h) (later s x b q u f) = never (halt a b)
+  one_fail (past a h) (later s x b q u f) = never (clash b a)
   one_fail {d = d} (later s x b q u f) (ends a l h) = let w = same_width a b in never (too_short d s x (omega arith) q)
   one_fail {tag = tag} {p = p} (later s' x' b' q' u' f) (unread s x b q u) =
       let z = split_same s s' x x' (same_width b b') (sym q ∙ q') in never (clash u' (subst (λ i. m.reads tag p i ≡ None) z.0 u))
-  one_fail (later s x b q u f) (past a h) = never (halt a b)
+  one_fail (later s x b q u f) (past a h) = never (clash b a)
   one_fail {dr} {n = n} {base = base} {tag = tag} {p = p} {g = fault} (later {k = k} s x b q u f) (later s' x' b' q' u' f') =
       let z = split_same s s' x x' (same_width b b') (sym q ∙ q') in
       let g1 : Fails m dr n tag base (p ++ s) x' (k + 1) fault = subst (λ i. Fails m dr n tag base (p ++ i) x' (k + 1) fault) (sym z.0) f' in

@@ -1,9 +1,8 @@
 -- Lists of whole records: put together, cut, one more; a draft with one spelling more.
 use Rattle.std.proofs.Common.{◌≡◌, ℕ, zero, suc, ◌+◌, ◌<◌, Bool, true, false, List, [], ◌∷◌, ◌++◌, length, get_or, take, drop, set, Some, None, Option, sym, refl, ap, ◌∙◌, subst, inl, inr, append_assoc, append-nil, arith, length-append}
 use Rattle.std.proofs.lemmas.Bool.{cases_eq, cases_lt}
-use Rattle.book.specs.Meaning.{Meaning}
-use Rattle.book.specs.declared.answer.Answer.{Answer}
-use Rattle.book.specs.declared.answer.Answer.TheVariants.{Done, Field}
+use Rattle.book.specs.Meaning.{Meaning, field}
+use Rattle.book.specs.declared.field.Field.{Field}
 use Rattle.model.specs.Records.{Record, TableField, TableRow, Fields, Begun, Full, Wanting, Misfits, Whole, AllWhole, joined, digits5, record_of, written}
 use Rattle.model.specs.Records.Value.{read, raw}
 use Rattle.model.specs.Records.Fields.{none, next}
@@ -53,29 +52,29 @@ module _ {V : Type 0} {m : Meaning V} where
   all_set (suc n) (more v vs) w = more v (all_set n vs w)
 
   -- one field more at the end
-  pub fields_push : {tag p s : List ℕ} {ss : List (List ℕ)} {fs : List (TableField V)} {n : ℕ} {v : V} → Fields m tag p ss fs → m.asks tag (p ++ joined ss) ≡ Field n (length s) → m.reads tag (p ++ joined ss) s ≡ Some v → Fields m tag p (ss ++ (s ∷ [])) (fs ++ (record { name = n; value = read v } ∷ []))
+  pub fields_push : {tag p s : List ℕ} {ss : List (List ℕ)} {fs : List (TableField V)} {n : ℕ} {v : V} → Fields m tag p ss fs → m.asks tag (p ++ joined ss) ≡ Some (field n (length s)) → m.reads tag (p ++ joined ss) s ≡ Some v → Fields m tag p (ss ++ (s ∷ [])) (fs ++ (record { name = n; value = read v } ∷ []))
   fields_push {tag} {p} {s} {n = n} {v = v} none a r =
-      let a' : m.asks tag p ≡ Field n (length s) = subst (λ x. m.asks tag x ≡ Field n (length s)) (append-nil p) a in
+      let a' : m.asks tag p ≡ Some (field n (length s)) = subst (λ x. m.asks tag x ≡ Some (field n (length s))) (append-nil p) a in
       let r' : m.reads tag p s ≡ Some v = subst (λ x. m.reads tag x s ≡ Some v) (append-nil p) r in
       next a' r' none
   fields_push {tag} {p} {s} {n = n} {v = v} (next {s = o} {ss = ss} b q f) a r =
       let e : p ++ (o ++ joined ss) ≡ (p ++ o) ++ joined ss = sym (append_assoc p o (joined ss)) in
-      next b q (fields_push f (subst (λ x. m.asks tag x ≡ Field n (length s)) e a) (subst (λ x. m.reads tag x s ≡ Some v) e r))
+      next b q (fields_push f (subst (λ x. m.asks tag x ≡ Some (field n (length s))) e a) (subst (λ x. m.reads tag x s ≡ Some v) e r))
 
   pub begin_begun : (tag : List ℕ) (b : Bool) → m.knows tag ≡ b → Begun m tag [] []
   begin_begun tag true e = known e none
   begin_begun tag false e = bare e
 
   module _ {tag s : List ℕ} {ss : List (List ℕ)} {fs : List (TableField V)} (room : Full m tag ss → ⊥) (fit : Misfits m tag ss s → ⊥) (good : (m.knows tag ≡ true) × (m.reads tag (joined ss) s ≡ None) → ⊥) where
-    push_read : {n : ℕ} → m.knows tag ≡ true → Fields m tag [] ss fs → m.asks tag (joined ss) ≡ Field n (length s) → (o : Option V) → m.reads tag (joined ss) s ≡ o → (gs : List (TableField V)) × Begun m tag (ss ++ (s ∷ [])) gs
+    push_read : {n : ℕ} → m.knows tag ≡ true → Fields m tag [] ss fs → m.asks tag (joined ss) ≡ Some (field n (length s)) → (o : Option V) → m.reads tag (joined ss) s ≡ o → (gs : List (TableField V)) × Begun m tag (ss ++ (s ∷ [])) gs
     push_read k f a None e = never (good (k, e))
     push_read {n} k f a (Some v) e = (fs ++ (record { name = n; value = read v } ∷ []), known k (fields_push f a e))
 
-    push_asked : m.knows tag ≡ true → Fields m tag [] ss fs → (x : Answer) → m.asks tag (joined ss) ≡ x → (gs : List (TableField V)) × Begun m tag (ss ++ (s ∷ [])) gs
-    push_asked k f Done e = never (room (asked k e))
-    push_asked k f (Field n w) e =
-        elim (cases_eq (length s) w) [
-          | inl q ↦ push_read k f (e ∙ ap (Field n) (sym q)) (m.reads tag (joined ss) s) refl
+    push_asked : m.knows tag ≡ true → Fields m tag [] ss fs → (x : Option Field) → m.asks tag (joined ss) ≡ x → (gs : List (TableField V)) × Begun m tag (ss ++ (s ∷ [])) gs
+    push_asked k f None e = never (room (asked k e))
+    push_asked k f (Some x) e =
+        elim (cases_eq (length s) x.width) [
+          | inl q ↦ push_read k f (e ∙ ap (λ z. Some (field x.name z)) (sym q)) (m.reads tag (joined ss) s) refl
           | inr q ↦ never (fit (width k e q))
         ]
 
@@ -90,9 +89,9 @@ module _ {V : Type 0} {m : Meaning V} where
   push room fit good (lump k h) = never (room (filled k (omega arith)))
 
   -- where a record does not want a field, it is full
-  full_asked : (tag : List ℕ) (ss : List (List ℕ)) → m.knows tag ≡ true → (Wanting m tag ss → ⊥) → (x : Answer) → m.asks tag (joined ss) ≡ x → Full m tag ss
-  full_asked tag ss k h Done e = asked k e
-  full_asked tag ss k h (Field n w) e = never (h (asks k e))
+  full_asked : (tag : List ℕ) (ss : List (List ℕ)) → m.knows tag ≡ true → (Wanting m tag ss → ⊥) → (x : Option Field) → m.asks tag (joined ss) ≡ x → Full m tag ss
+  full_asked tag ss k h None e = asked k e
+  full_asked tag ss k h (Some x) e = never (h (asks k e))
 
   pub full_or : (tag : List ℕ) (ss : List (List ℕ)) → (Wanting m tag ss → ⊥) → (b : Bool) → m.knows tag ≡ b → Full m tag ss
   full_or tag ss h true e = full_asked tag ss e h (m.asks tag (joined ss)) refl

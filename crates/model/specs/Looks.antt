@@ -1,14 +1,12 @@
 -- What the looks at bytes find.
 use Rattle.std.specs.Prelude.{◌≡◌, ℕ, ◌+◌, Bool, true, false, List, [], ◌++◌, length, take, drop, Some, None, Ok, Err, Option, Result}
 use Rattle.book.specs.Meaning.{Meaning}
-use Rattle.book.specs.declared.answer.Answer.TheVariants.{Done}
 use Rattle.refusal.specs.declared.fault.Fault.{Fault}
 use Rattle.refusal.specs.declared.fault.Cause.TheVariants.{BadTag}
 use Rattle.model.specs.declared.area.Area.{Area}
 use Rattle.model.specs.declared.seen.Read.{Read}
+use Rattle.model.specs.declared.seen.Draft.{Draft}
 use Rattle.model.specs.declared.seen.Seen.{Seen}
-use Rattle.model.specs.declared.seen.Open.{Open}
-use Rattle.model.specs.declared.seen.Open.TheVariants.{Shut, Known, Unknown}
 use Rattle.refusal.specs.Faults.{fault}
 use Rattle.model.specs.Ledgers.{Ledger, Stands, LookRefuses, Drafts}
 use Rattle.model.specs.Records.{Record, TableField, TableRow, GoodTag, Fields, Whole, AllWhole, joined, record_of, written}
@@ -28,7 +26,7 @@ pub record Fielded {V M : Type 0} (m : Meaning V) (stands : List ℕ → List �
   pub bytes : joined spellings ≡ d
   pub count : length spellings ≡ r.count
   pub mark : stands tag d r.mark
-  pub done : draft ≡ false → m.asks tag d ≡ Done
+  pub done : draft ≡ false → m.asks tag d ≡ None
 
 -- what reading the data of record n comes to: nothing to read under an unknown tag
 abbrev pub Fieldeds : {V M : Type 0} → Meaning V → (List ℕ → List ℕ → M → Type 0) → Bool → ℕ → List ℕ → ℕ → List ℕ → Result (Option (Read M)) Fault → Type 0
@@ -60,29 +58,32 @@ abbrev pub Listeds : {V : Type 0} → Meaning V → List ℕ → Result ℕ Faul
 Listeds m a (Ok k) = Listed m a k
 Listeds m a (Err f) = Refuses m 0 0 a f
 
--- what is known of a draft, if there is one: under a known tag, a mark behind its fields
-abbrev pub OpenAs : {V M : Type 0} → Meaning V → (List ℕ → List ℕ → M → Type 0) → Option Record → Open M → Type 0
-OpenAs m stands None Shut = Unit {0}
-OpenAs m stands None (Known r) = ⊥
-OpenAs m stands None (Unknown k) = ⊥
-OpenAs m stands (Some e) Shut = ⊥
-OpenAs m stands (Some e) (Known r) = (m.knows e.tag ≡ true) × (length e.spellings ≡ r.count) × stands e.tag (joined e.spellings) r.mark
-OpenAs m stands (Some e) (Unknown k) = (m.knows e.tag ≡ false) × (length e.spellings ≡ k)
+-- under a known tag, a mark behind the fields of the record
+abbrev pub MarkedAs : {V M : Type 0} → Meaning V → (List ℕ → List ℕ → M → Type 0) → Record → Option M → Type 0
+MarkedAs m stands e None = m.knows e.tag ≡ false
+MarkedAs m stands e (Some mark) = (m.knows e.tag ≡ true) × stands e.tag (joined e.spellings) mark
+
+-- what is known of a draft, if there is one
+abbrev pub OpenAs : {V M : Type 0} → Meaning V → (List ℕ → List ℕ → M → Type 0) → Option Record → Option (Draft M) → Type 0
+OpenAs m stands None None = Unit {0}
+OpenAs m stands None (Some d) = ⊥
+OpenAs m stands (Some e) None = ⊥
+OpenAs m stands (Some e) (Some d) = (length e.spellings ≡ d.count) × MarkedAs m stands e d.mark
 
 -- behind the area stands a draft with k bytes of data
-pub record Draws {V M : Type 0} (m : Meaning V) (stands : List ℕ → List ℕ → M → Type 0) (tail : List ℕ) (k : ℕ) (o : Open M) : Type 0 where
+pub record Draws {V M : Type 0} (m : Meaning V) (stands : List ℕ → List ℕ → M → Type 0) (tail : List ℕ) (k : ℕ) (d : Draft M) : Type 0 where
   pub entry : Record
   pub drafts : Drafts m tail entry
   pub long : length (joined entry.spellings) ≡ k
-  pub opened : OpenAs m stands (Some entry) o
+  pub opened : OpenAs m stands (Some entry) (Some d)
 
 -- or none, for this reason
 pub data Spoilt {V : Type 0} (m : Meaning V) (tail : List ℕ) (k at n : ℕ) : Fault → Type 0 where
   tag : (GoodTag (take 6 tail) → ⊥) → Spoilt m tail k at n (fault BadTag at n 0)
   fields : {f : Fault} → GoodTag (take 6 tail) → m.knows (take 6 tail) ≡ true → Fails m true n (take 6 tail) (at + 11) [] (take k (drop 11 tail)) 0 f → Spoilt m tail k at n f
 
-abbrev pub Drawn : {V M : Type 0} → Meaning V → (List ℕ → List ℕ → M → Type 0) → List ℕ → ℕ → ℕ → ℕ → Result (Open M) Fault → Type 0
-Drawn m stands tail k at n (Ok o) = Draws m stands tail k o
+abbrev pub Drawn : {V M : Type 0} → Meaning V → (List ℕ → List ℕ → M → Type 0) → List ℕ → ℕ → ℕ → ℕ → Result (Draft M) Fault → Type 0
+Drawn m stands tail k at n (Ok d) = Draws m stands tail k d
 Drawn m stands tail k at n (Err f) = Spoilt m tail k at n f
 
 -- the buffer and the area value stand for a ledger
@@ -91,7 +92,7 @@ pub record Looked {V M : Type 0} (m : Meaning V) (stands : List ℕ → List ℕ
   pub table : List (TableRow V)
   pub stood : Stands m buf a ledger table
   pub count : length ledger.records ≡ s.count
-  pub opened : OpenAs m stands ledger.draft s.state
+  pub opened : OpenAs m stands ledger.draft s.draft
 
 abbrev pub Lookeds : {V M : Type 0} → Meaning V → (List ℕ → List ℕ → M → Type 0) → List ℕ → Area → Result (Seen M) Fault → Type 0
 Lookeds m stands buf a (Ok s) = Looked m stands buf a s

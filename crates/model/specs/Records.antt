@@ -1,7 +1,6 @@
 -- Records as a ledger holds them, how they are written, and when a book takes one.
-use Rattle.std.specs.Prelude.{◌≡◌, ℕ, ◌+◌, ◌/◌, ◌%◌, ◌<◌, ◌≤◌, true, false, List, [], ◌∷◌, ◌++◌, length, Some, ◌≢◌, slice_index, slice_index_or}
-use Rattle.book.specs.Meaning.{Meaning}
-use Rattle.book.specs.declared.answer.Answer.TheVariants.{Done, Field}
+use Rattle.std.specs.Prelude.{◌≡◌, ℕ, ◌+◌, ◌/◌, ◌%◌, ◌<◌, ◌≤◌, true, false, List, [], ◌∷◌, ◌++◌, length, Some, ◌≢◌, slice_index, slice_index_or, None}
+use Rattle.book.specs.Meaning.{Meaning, field}
 
 -- a record: its tag, and the spellings of its fields in order
 pub record Record : Type 0 where
@@ -52,7 +51,7 @@ module _ {V : Type 0} (m : Meaning V) where
   -- behind the bytes p of a record with this tag, each spelling is the next field, and reads
   pub data Fields (tag : List ℕ) : List ℕ → List (List ℕ) → List (TableField V) → Type 0 where
     none : {p : List ℕ} → Fields tag p [] []
-    next : {p s : List ℕ} {ss : List (List ℕ)} {n : ℕ} {v : V} {fs : List (TableField V)} → m.asks tag p ≡ Field n (length s) → m.reads tag p s ≡ Some v → Fields tag (p ++ s) ss fs → Fields tag p (s ∷ ss) (record { name = n; value = read v } ∷ fs)
+    next : {p s : List ℕ} {ss : List (List ℕ)} {n : ℕ} {v : V} {fs : List (TableField V)} → m.asks tag p ≡ Some (field n (length s)) → m.reads tag p s ≡ Some v → Fields tag (p ++ s) ss fs → Fields tag p (s ∷ ss) (record { name = n; value = read v } ∷ fs)
 
   -- The spellings begin a record with this tag, and read as these fields. Under an unknown tag all the data is one field.
   pub data Begun (tag : List ℕ) : List (List ℕ) → List (TableField V) → Type 0 where
@@ -62,17 +61,17 @@ module _ {V : Type 0} (m : Meaning V) where
 
   -- behind these spellings the record asks for no more
   pub data Full (tag : List ℕ) (ss : List (List ℕ)) : Type 0 where
-    asked : m.knows tag ≡ true → m.asks tag (joined ss) ≡ Done → Full tag ss
+    asked : m.knows tag ≡ true → m.asks tag (joined ss) ≡ None → Full tag ss
     filled : m.knows tag ≡ false → 0 < length ss → Full tag ss
 
   -- behind these spellings the record still asks for a field
   pub data Wanting (tag : List ℕ) (ss : List (List ℕ)) : Type 0 where
-    asks : {n w : ℕ} → m.knows tag ≡ true → m.asks tag (joined ss) ≡ Field n w → Wanting tag ss
+    asks : {n w : ℕ} → m.knows tag ≡ true → m.asks tag (joined ss) ≡ Some (field n w) → Wanting tag ss
     empty : m.knows tag ≡ false → length ss ≡ 0 → Wanting tag ss
 
   -- the next field has another width than s
   pub data Misfits (tag : List ℕ) (ss : List (List ℕ)) (s : List ℕ) : Type 0 where
-    width : {n w : ℕ} → m.knows tag ≡ true → m.asks tag (joined ss) ≡ Field n w → (length s ≢ w) → Misfits tag ss s
+    width : {n w : ℕ} → m.knows tag ≡ true → m.asks tag (joined ss) ≡ Some (field n w) → (length s ≢ w) → Misfits tag ss s
     empty : m.knows tag ≡ false → length s ≡ 0 → Misfits tag ss s
 
   -- a record that the book takes, and the row of the table that it is

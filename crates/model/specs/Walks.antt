@@ -1,7 +1,6 @@
 -- Why bytes do not read: one constructor for each refusal of a walk.
 use Rattle.std.specs.Prelude.{◌≡◌, ℕ, ◌+◌, ◌<◌, ◌≤◌, Bool, true, false, List, [], ◌++◌, length, Some, None}
-use Rattle.book.specs.Meaning.{Meaning}
-use Rattle.book.specs.declared.answer.Answer.TheVariants.{Done, Field}
+use Rattle.book.specs.Meaning.{Meaning, field}
 use Rattle.refusal.specs.declared.fault.Cause.TheVariants.{CutOff, BadTag, BadLength, Unread, EndsEarly, PastDone}
 use Rattle.refusal.specs.declared.fault.Fault.{Fault}
 use Rattle.refusal.specs.Faults.{fault}
@@ -15,10 +14,10 @@ module _ {V : Type 0} (m : Meaning V) where
   -- `Fails may n tag base p d k f`: in record n, whose data begins at base, the data is p and then d, p holds k fields, and reading d gives f.
   -- A draft may end between two fields, so that there the data ends too early only inside a field.
   pub data Fails (draft : Bool) (n : ℕ) (tag : List ℕ) (base : ℕ) : List ℕ → List ℕ → ℕ → Fault → Type 0 where
-    ends : {p d : List ℕ} {k name w : ℕ} → m.asks tag p ≡ Field name w → length d < w → (draft ≡ true → 0 < length d) → Fails draft n tag base p d k (fault EndsEarly (base + length p) n k)
-    unread : {p d : List ℕ} {k name : ℕ} (s rest : List ℕ) → m.asks tag p ≡ Field name (length s) → d ≡ s ++ rest → m.reads tag p s ≡ None → Fails draft n tag base p d k (fault Unread (base + length p) n k)
-    past : {p d : List ℕ} {k : ℕ} → m.asks tag p ≡ Done → 0 < length d → Fails draft n tag base p d k (fault PastDone (base + length p) n 0)
-    later : {p d : List ℕ} {k name : ℕ} {v : V} {f : Fault} (s rest : List ℕ) → m.asks tag p ≡ Field name (length s) → d ≡ s ++ rest → m.reads tag p s ≡ Some v → Fails draft n tag base (p ++ s) rest (k + 1) f → Fails draft n tag base p d k f
+    ends : {p d : List ℕ} {k name w : ℕ} → m.asks tag p ≡ Some (field name w) → length d < w → (draft ≡ true → 0 < length d) → Fails draft n tag base p d k (fault EndsEarly (base + length p) n k)
+    unread : {p d : List ℕ} {k name : ℕ} (s rest : List ℕ) → m.asks tag p ≡ Some (field name (length s)) → d ≡ s ++ rest → m.reads tag p s ≡ None → Fails draft n tag base p d k (fault Unread (base + length p) n k)
+    past : {p d : List ℕ} {k : ℕ} → m.asks tag p ≡ None → 0 < length d → Fails draft n tag base p d k (fault PastDone (base + length p) n 0)
+    later : {p d : List ℕ} {k name : ℕ} {v : V} {f : Fault} (s rest : List ℕ) → m.asks tag p ≡ Some (field name (length s)) → d ≡ s ++ rest → m.reads tag p s ≡ Some v → Fails draft n tag base (p ++ s) rest (k + 1) f → Fails draft n tag base p d k f
 
   -- `Refuses at n a f`: the bytes a, which begin with record n at this place, give f.
   pub data Refuses : ℕ → ℕ → List ℕ → Fault → Type 0 where

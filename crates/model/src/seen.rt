@@ -7,17 +7,16 @@ pub struct Read<M> {
     pub count: usize,
 }
 
-// What is known of a draft: that there is none, a mark behind its fields, or how many fields it has under an unknown tag.
+// A draft: how many fields it has, and, under a tag that the book knows, a mark behind them.
 #[derive(Drop)]
-pub enum Open<M> {
-    Shut,
-    Known(Read<M>),
-    Unknown(usize),
+pub struct Draft<M> {
+    pub mark: Option<M>,
+    pub count: usize,
 }
 
-// How many records an area has, and its draft.
+// How many records an area has, and its draft, if one is open.
 #[derive(Drop)]
 pub struct Seen<M> {
     pub count: usize,
-    pub state: Open<M>,
+    pub draft: Option<Draft<M>>,
 }

@@ -1,5 +1,4 @@
-pub mod FineLatitudes
-pub mod FineLongitudes
+pub mod FineAngles
 pub mod Locations
 pub mod Places
 pub mod Sides

@@ -9,7 +9,7 @@ use Rattle.places.specs.declared.location.EastWest.{EastWest}
 use Rattle.places.specs.declared.location.Location.{Location}
 use Rattle.places.specs.declared.location.NorthSouth.{NorthSouth}
 use Rattle.kinds.specs.Listing.{listed, listed_laws}
-use Rattle.kinds.specs.Naming.{Names, named, names_laws}
+use Rattle.kind.specs.Naming.{Names, named, names_laws}
 use Rattle.places.specs.Sides.{pole_letters, poles, pole_spelt, side_letters, sides, side_spelt}
 
 abbrev pub Parts : Type 0
@@ -33,5 +33,8 @@ pub names : Names made parts in_parts location
 unfolding location
 names = record { same = λ s. refl; there = λ p. refl; back = λ v. refl }
 
+pub parts_laws : Laws 11 in_parts
+parts_laws = seq_laws (number_laws 2 0 89 (omega arith) (omega arith)) (seq_laws (number_laws 2 0 59 (omega arith) (omega arith)) (seq_laws (listed_laws pole_spelt poles) (seq_laws (number_laws 3 0 179 (omega arith) (omega arith)) (seq_laws (number_laws 2 0 59 (omega arith) (omega arith)) (listed_laws side_spelt sides)))))
+
 pub location_laws : Laws 11 location
-location_laws = names_laws names (seq_laws (number_laws 2 0 89 (omega arith) (omega arith)) (seq_laws (number_laws 2 0 59 (omega arith) (omega arith)) (seq_laws (listed_laws pole_spelt poles) (seq_laws (number_laws 3 0 179 (omega arith) (omega arith)) (seq_laws (number_laws 2 0 59 (omega arith) (omega arith)) (listed_laws side_spelt sides))))))
+location_laws = names_laws names parts_laws

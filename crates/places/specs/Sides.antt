@@ -7,6 +7,10 @@ use Rattle.places.specs.declared.location.NorthSouth.{NorthSouth}
 use Rattle.places.specs.declared.location.NorthSouth.TheVariants.{North, South}
 use Rattle.kinds.specs.Listing.{Spelt, listed, apart_in}
 
+-- one letter each, by which each is found again in a list of them
+lettered : {V : Type 0} (letters : V → List ℕ) (every : List V) → ((v : V) → (length (letters v) ≡ 1) × (listed letters every (letters v) ≡ Some v)) → Spelt 1 letters
+lettered letters every each = record { low = omega arith; high = omega arith; long = λ v. (each v).0; apart = apart_in letters every (λ v. (each v).1) }
+
 -- N and S
 abbrev pub pole_letters : NorthSouth → List ℕ
 pole_letters North = 78 ∷ []
@@ -15,16 +19,12 @@ pole_letters South = 83 ∷ []
 abbrev pub poles : List NorthSouth
 poles = North ∷ South ∷ []
 
-pole_long : (v : NorthSouth) → length (pole_letters v) ≡ 1
-pole_long North = refl
-pole_long South = refl
-
-pole_found : (v : NorthSouth) → listed pole_letters poles (pole_letters v) ≡ Some v
-pole_found North = refl
-pole_found South = refl
+pole_each : (v : NorthSouth) → (length (pole_letters v) ≡ 1) × (listed pole_letters poles (pole_letters v) ≡ Some v)
+pole_each North = (refl, refl)
+pole_each South = (refl, refl)
 
 pub pole_spelt : Spelt 1 pole_letters
-pole_spelt = record { low = omega arith; high = omega arith; long = pole_long; apart = apart_in pole_letters poles pole_found }
+pole_spelt = lettered pole_letters poles pole_each
 
 -- E and W
 abbrev pub side_letters : EastWest → List ℕ
@@ -34,13 +34,9 @@ side_letters West = 87 ∷ []
 abbrev pub sides : List EastWest
 sides = East ∷ West ∷ []
 
-side_long : (v : EastWest) → length (side_letters v) ≡ 1
-side_long East = refl
-side_long West = refl
-
-side_found : (v : EastWest) → listed side_letters sides (side_letters v) ≡ Some v
-side_found East = refl
-side_found West = refl
+side_each : (v : EastWest) → (length (side_letters v) ≡ 1) × (listed side_letters sides (side_letters v) ≡ Some v)
+side_each East = (refl, refl)
+side_each West = (refl, refl)
 
 pub side_spelt : Spelt 1 side_letters
-side_spelt = record { low = omega arith; high = omega arith; long = side_long; apart = apart_in side_letters sides side_found }
+side_spelt = lettered side_letters sides side_each

@@ -12,7 +12,7 @@ use Rattle.kinds.specs.Points.{point, point_laws}
 use Rattle.kinds.specs.Texts.{word, word_laws}
 use Rattle.places.specs.declared.signed_point.SignedDecimal.{SignedDecimal}
 use Rattle.places.specs.declared.signed_point.SignedDecimal.TheVariants.{Plus, Minus}
-use Rattle.kinds.specs.Naming.{Names, named, names_laws}
+use Rattle.kind.specs.Naming.{Names, named, names_laws}
 
 abbrev pub plus : List ℕ
 plus = 43 ∷ []
@@ -77,6 +77,8 @@ names_with a q high p m x y = record {
   back = back;
 }
 
+pub parts_laws : (a q high : ℕ) → 1 ≤ a → a + q ≤ 18 → Laws (wide_with a q) (in_parts a q high)
+parts_laws a q high some few = either_laws (seq_laws (word_laws plus (omega arith) (omega arith)) (point_laws a q 0 high some few)) (seq_laws (word_laws minus (omega arith) (omega arith)) (point_laws a q 1 high some few))
+
 pub signed_point_laws : (a q high : ℕ) → 1 ≤ a → a + q ≤ 18 → Laws (wide_with a q) (signed_point a q high)
-signed_point_laws a q high some few =
-    names_laws (names a q high) (either_laws (seq_laws (word_laws plus (omega arith) (omega arith)) (point_laws a q 0 high some few)) (seq_laws (word_laws minus (omega arith) (omega arith)) (point_laws a q 1 high some few)))
+signed_point_laws a q high some few = names_laws (names a q high) (parts_laws a q high some few)

@@ -1,8 +1,7 @@
 #![tactic(auto)]
 
 pub mod fine;
-pub mod fine_latitudes;
-pub mod fine_longitudes;
+pub mod fine_angles;
 pub mod location;
 pub mod locations;
 pub mod place;

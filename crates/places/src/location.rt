@@ -1,3 +1,5 @@
+use std::marker::PhantomData;
+
 // A side of the equator.
 #[derive(Clone, Copy, PartialEq, Eq, Debug)]
 pub enum NorthSouth {
@@ -12,27 +14,29 @@ pub enum EastWest {
     West,
 }
 
-// The letters N and S.
+// The letters of the two sides of a line.
 #[derive(Clone, Copy)]
-pub struct Poleward;
+pub struct Sides<S> {
+    pub of: PhantomData<S>,
+}
+
+// The letters N and S.
+pub type Poleward = Sides<NorthSouth>;
 
 // The letters E and W.
-#[derive(Clone, Copy)]
-pub struct Sideward;
+pub type Sideward = Sides<EastWest>;
 
+// Degrees and minutes to one side of a line.
 #[derive(Clone, Copy, PartialEq, Eq, Debug)]
-pub struct Latitude {
+pub struct Angle<S> {
     pub degrees: u64,
     pub minutes: u64,
-    pub side: NorthSouth,
+    pub side: S,
 }
 
-#[derive(Clone, Copy, PartialEq, Eq, Debug)]
-pub struct Longitude {
-    pub degrees: u64,
-    pub minutes: u64,
-    pub side: EastWest,
-}
+pub type Latitude = Angle<NorthSouth>;
+
+pub type Longitude = Angle<EastWest>;
 
 // A place on the earth to the minute; its sides count at zero too.
 #[derive(Clone, Copy, PartialEq, Eq, Debug)]

@@ -1,132 +1,118 @@
-ghost use Rattle.std.specs.Prelude.{◌≡◌};
-ghost use Rattle.kind.specs.Kinds.{Told, Checked, Spelled};
+ghost use Rattle.std.specs.Prelude.{Some};
+ghost use Rattle.kind.specs.Compounds.{names_composed};
 ghost use Rattle.places.specs.declared.location.Location.{Location};
-ghost use Rattle.places.specs.Locations.{made, parts, location, location_laws};
+ghost use Rattle.places.specs.Locations.{Parts, in_parts, made, parts, location, names, parts_laws};
 
 use crate::location::{
-    EastWest, Latitude, Location, Locations, Longitude, NorthSouth, Poleward, Sideward,
+    Angle, EastWest, Location, Locations, NorthSouth, Poleward, Sides, Sideward,
 };
-use kind::Kind;
+use crate::sides::Side;
+use kind::compound::Compound;
 use kinds::layers::{Both, Then};
 use kinds::listed::Codes;
-use kinds::number::Number;
-use refusal::fault::Fault;
+use kinds::number::{Number, SIXTY};
+use std::marker::PhantomData;
 
-const PARTS: Then<
-    Number,
-    Then<Number, Then<Codes<Poleward>, Then<Number, Then<Number, Codes<Sideward>>>>>,
-> = Then {
-    first: Number {
-        width: 2,
-        low: 0,
-        high: 89,
-    },
-    second: Then {
-        first: Number {
-            width: 2,
-            low: 0,
-            high: 59,
-        },
-        second: Then {
-            first: Codes { list: Poleward },
-            second: Then {
-                first: Number {
-                    width: 3,
-                    low: 0,
-                    high: 179,
-                },
-                second: Then {
-                    first: Number {
-                        width: 2,
-                        low: 0,
-                        high: 59,
-                    },
-                    second: Codes { list: Sideward },
-                },
-            },
-        },
-    },
-};
+type East = Then<Number, Then<Number, Codes<Sideward>>>;
 
-fn make(pieces: Both<u64, Both<u64, Both<NorthSouth, Both<u64, Both<u64, EastWest>>>>>) -> Location
-    ensures { result ≡ made pieces }
-{
-    let latitude = Latitude {
-        degrees: pieces.front,
-        minutes: pieces.back.front,
-        side: pieces.back.back.front,
-    };
-    let longitude = Longitude {
-        degrees: pieces.back.back.back.front,
-        minutes: pieces.back.back.back.back.front,
-        side: pieces.back.back.back.back.back,
-    };
-    Location {
-        latitude,
-        longitude,
-    }
-}
+// Both halves in one chain, as the definition reads: a kind for each would need a law that regroups them, and is no plainer.
+impl<'a> Compound<'a> for Locations {
+    type Parts = Then<Number, Then<Number, Then<Codes<Poleward>, East>>>;
 
-fn split(value: &Location) -> Both<u64, Both<u64, Both<NorthSouth, Both<u64, Both<u64, EastWest>>>>>
-    ensures { result ≡ parts value.now }
-{
-    let north = &value.latitude;
-    let east = &value.longitude;
-    Both {
-        front: north.degrees,
-        back: Both {
-            front: north.minutes,
-            back: Both {
-                front: north.side,
-                back: Both {
-                    front: east.degrees,
-                    back: Both {
-                        front: east.minutes,
-                        back: east.side,
-                    },
-                },
-            },
-        },
-    }
-}
-
-impl<'a> Kind<'a> for Locations {
     type Value = Location;
 
     ghost Val = { Location };
 
     ghost view = { λ v. v };
 
+    ghost Pieces = { Parts };
+
+    ghost seen = { λ p. p };
+
+    ghost built = { λ p. Some (made p) };
+
+    ghost pieces_of = { parts };
+
     ghost wide = { λ _. 11 };
+
+    ghost in_pieces = { λ _. in_parts };
 
     ghost reads = { λ _. location };
 
-    ghost laws = { λ _. location_laws };
+    ghost composed = { λ _. names_composed names parts_laws };
 
-    fn width(&self) -> usize
-        ensures { result ≡ 11 }
-    {
-        11
-    }
-
-    fn check(&self, s: &[u8]) -> Result<(), Fault>
-        ensures { Checked location s.now result }
-    {
-        PARTS.check(s)
-    }
-
-    fn read(&self, s: &'a [u8]) -> Result<Location, Fault>
-        ensures { Told (λ v. v) location s.now result }
-    {
-        match PARTS.read(s) {
-            Ok(pieces) => Ok(make(pieces)),
-            Err(e) => Err(e),
+    fn parts(&self) -> Then<Number, Then<Number, Then<Codes<Poleward>, East>>> {
+        let east = Then {
+            first: Number {
+                width: EastWest::WIDTH,
+                low: 0,
+                high: EastWest::HIGH,
+            },
+            second: Then {
+                first: SIXTY,
+                second: Codes {
+                    list: Sides { of: PhantomData },
+                },
+            },
+        };
+        Then {
+            first: Number {
+                width: NorthSouth::WIDTH,
+                low: 0,
+                high: NorthSouth::HIGH,
+            },
+            second: Then {
+                first: SIXTY,
+                second: Then {
+                    first: Codes {
+                        list: Sides { of: PhantomData },
+                    },
+                    second: east,
+                },
+            },
         }
     }
 
-    fn spell(&self, value: &Location, out: &mut [u8]) -> Result<(), Fault>
-        ensures { Spelled location value.now out.old out.new result }
-    {
-        PARTS.spell(&split(value), out)
+    fn build(
+        &self,
+        pieces: Both<u64, Both<u64, Both<NorthSouth, Both<u64, Both<u64, EastWest>>>>>,
+    ) -> Option<Location> {
+        let east = pieces.back.back.back;
+        Some(Location {
+            latitude: Angle {
+                degrees: pieces.front,
+                minutes: pieces.back.front,
+                side: pieces.back.back.front,
+            },
+            longitude: Angle {
+                degrees: east.front,
+                minutes: east.back.front,
+                side: east.back.back,
+            },
+        })
+    }
+
+    fn split(
+        &self,
+        value: &Location,
+    ) -> Both<u64, Both<u64, Both<NorthSouth, Both<u64, Both<u64, EastWest>>>>> {
+        let north = &value.latitude;
+        let east = &value.longitude;
+        Both {
+            front: north.degrees,
+            back: Both {
+                front: north.minutes,
+                back: Both {
+                    front: north.side,
+                    back: Both {
+                        front: east.degrees,
+                        back: Both {
+                            front: east.minutes,
+                            back: east.side,
+                        },
+                    },
+                },
+            },
+        }
     }
 }

@@ -22,7 +22,7 @@ number BadWidth = 12
 number FewEntries = 13
 number BadForm = 14
 
--- layer 1 is the area, 2 the record, 3 the field, 4 the form
+-- the layer that gives it
 abbrev pub layer : Cause → Layer
 layer TooLong = Area
 layer CutOff = Record
@@ -38,6 +38,13 @@ layer NoDraft = Area
 layer BadWidth = Record
 layer FewEntries = Area
 layer BadForm = Form
+
+-- the number of a layer
+abbrev pub layer_number : Layer → ℕ
+layer_number Area = 1
+layer_number Record = 2
+layer_number Field = 3
+layer_number Form = 4
 
 -- a refusal with its place, its record and its field
 abbrev pub fault : Cause → ℕ → ℕ → ℕ → Fault

@@ -1,37 +1,37 @@
 ghost use Rattle.std.specs.Prelude.{◌≡◌};
-ghost use Rattle.refusal.specs.Faults.{number, layer, fault, in_field, in_record, fielded, recorded};
+ghost use Rattle.refusal.specs.Faults.{number, layer, layer_number, fault, in_field, in_record, fielded, recorded};
 
-// Why a call is refused.
+// Why a call is refused, with the number that the refusal goes by.
 #[derive(Clone, Copy, PartialEq, Eq, Debug)]
 pub enum Cause {
     // The length given passes the limit of an area, or the buffer.
-    TooLong,
+    TooLong = 1,
     // Too few bytes are left for a header, or the length in it passes the end.
-    CutOff,
+    CutOff = 2,
     // The tag breaks the rule of tags.
-    BadTag,
+    BadTag = 3,
     // The length is not five digits, or out of range.
-    BadLength,
+    BadLength = 4,
     // The spelling does not read.
-    Unread,
+    Unread = 5,
     // The data ends before or inside a field.
-    EndsEarly,
+    EndsEarly = 6,
     // There is data where the record is done.
-    PastDone,
+    PastDone = 7,
     // There is no such record, field or byte.
-    NoSuch,
+    NoSuch = 8,
     // The buffer, or the limit of an area, has too few bytes left.
-    NoRoom,
+    NoRoom = 9,
     // A draft is open.
-    DraftOpen,
+    DraftOpen = 10,
     // No draft is open.
-    NoDraft,
+    NoDraft = 11,
     // A width differs, or a change would move the record's fields.
-    BadWidth,
+    BadWidth = 12,
     // The caller lent too few entries.
-    FewEntries,
+    FewEntries = 13,
     // A row of a form, or a tag of a roll, breaks a rule.
-    BadForm,
+    BadForm = 14,
 }
 
 // Which layer of the library refuses.
@@ -57,22 +57,7 @@ impl Cause {
     pub fn number(self) -> u8
         ensures { result ≡ number self }
     {
-        match self {
-            Cause::TooLong => 1,
-            Cause::CutOff => 2,
-            Cause::BadTag => 3,
-            Cause::BadLength => 4,
-            Cause::Unread => 5,
-            Cause::EndsEarly => 6,
-            Cause::PastDone => 7,
-            Cause::NoSuch => 8,
-            Cause::NoRoom => 9,
-            Cause::DraftOpen => 10,
-            Cause::NoDraft => 11,
-            Cause::BadWidth => 12,
-            Cause::FewEntries => 13,
-            Cause::BadForm => 14,
-        }
+        self as u8
     }
 
     // The layer that gives it.
@@ -98,6 +83,15 @@ impl Cause {
     }
 }
 
+// The number that a layer goes by.
+impl From<Layer> for u8 {
+    ghost from_gives = { λ layer number. number ≡ layer_number layer };
+
+    fn from(layer: Layer) -> u8 {
+        layer as u8
+    }
+}
+
 impl Fault {
     // A refusal of the whole call, with no record and no field.
     pub fn new(cause: Cause, place: usize) -> Fault
@@ -116,10 +110,9 @@ impl Fault {
         ensures { result ≡ in_field self place field }
     {
         Fault {
-            cause: self.cause,
             place,
-            record: self.record,
             field,
+            ..self
         }
     }
 
@@ -127,12 +120,7 @@ impl Fault {
     pub fn in_record(self, record: usize) -> Fault
         ensures { result ≡ in_record self «record» }
     {
-        Fault {
-            cause: self.cause,
-            place: self.place,
-            record,
-            field: self.field,
-        }
+        Fault { record, ..self }
     }
 }
 
@@ -140,18 +128,12 @@ impl Fault {
 pub fn at_field<T>(outcome: Result<T, Fault>, place: usize, field: usize) -> Result<T, Fault>
     ensures { result ≡ fielded outcome place field }
 {
-    match outcome {
-        Ok(x) => Ok(x),
-        Err(f) => Err(f.in_field(place, field)),
-    }
+    outcome.map_err(|f| f.in_field(place, field))
 }
 
 // An outcome whose refusal, if it is one, is joined by the number of the record that it arose in.
 pub fn at_record<T>(outcome: Result<T, Fault>, record: usize) -> Result<T, Fault>
     ensures { result ≡ recorded outcome «record» }
 {
-    match outcome {
-        Ok(x) => Ok(x),
-        Err(f) => Err(f.in_record(record)),
-    }
+    outcome.map_err(|f| f.in_record(record))
 }

@@ -24,19 +24,11 @@ use walk::header::read_header;
 // How many bytes a listing takes in.
 pub const LIMIT: usize = 65_536;
 
-// An entry that is still to be filled.
-const BLANK: Entry = Entry {
-    record: 0,
-    field: 0,
-    name: 0,
-    place: 0,
-    width: 0,
-};
-
 // The listing of these bytes under a book.
 pub fn listed<'a, B: Book<'a>>(heap: Global, book: &B, bytes: &[u8]) -> Result<String, AllocError>
     ensures { IfOk result (λ s. Listing (B.Book.means book.now) bytes.now (string_bytes s)) }
 {
+    // Each outcome has an arm of its own: a refusal is a listing too.
     match table(heap, book, bytes) {
         Ok(text) => Ok(text),
         Err(Halt::Refused(fault)) => refused(heap, fault),
@@ -63,7 +55,7 @@ fn table<'a, B: Book<'a>>(heap: Global, book: &B, bytes: &[u8]) -> Result<String
     let area = open(book, bytes, bytes.len())?;
     let records = count(book, bytes, area)?;
     let fields = all_fields(heap, book, bytes, area)?;
-    let mut text = field_text(heap, bytes, fields.as_slice())?;
+    let mut text = Source { heap, bytes }.field_text(fields.as_slice())?;
     add_line(&mut text, end_line(heap, records, bytes.len())?)?;
     Ok(text)
 }
@@ -77,51 +69,57 @@ fn all_fields<'a, B: Book<'a>>(
 ) -> Result<Vec<Entry>, Halt>
     ensures { Enlisted (B.Book.means book.now) bytes.now area result }
 {
-    let mut fields = vec![in heap; BLANK; bytes.len()]?;
+    let mut fields = vec![in heap; Entry::default(); bytes.len()]?;
     let count = list(book, bytes, area, fields.as_mut_slice())?;
     fields.truncate(count);
     Ok(fields)
 }
 
-// The lines of all fields, and of the records that they open.
-fn field_text(heap: Global, bytes: &[u8], fields: &[Entry]) -> Result<String, Halt>
-    requires few { length bytes.now ≤ 99996 }
-    requires placed { AllByRecursion (Placed bytes.now) fields.now }
-    ensures { Printed bytes.now fields.now result }
-{
-    let mut text = String::new(heap);
-    for field in fields {
-        add_field(heap, bytes, *field, &mut text)?;
-    }
-    Ok(text)
+// The bytes that a listing is of, no more than an area has, and the heap that its lines are made on. That a field is placed
+// in them stays a clause: an entry is the caller's plain row, and the bytes are not its own.
+#[derive(Clone, Copy)]
+struct Source<'b> {
+    heap: Global,
+    bytes: &'b [u8],
+    ghost few: { length bytes.now ≤ 99996 },
 }
 
-// Puts the line of a field behind a text, and before it that of the record that the field opens.
-fn add_field(heap: Global, bytes: &[u8], field: Entry, text: &mut String) -> Result<(), Halt>
-    requires few { length bytes.now ≤ 99996 }
-    requires placed { Placed bytes.now field }
-    ensures { (l : List Record) → Laid bytes.now l → Opens l field → Grown (string_bytes text.old) (entry_lines l field) (string_bytes text.new) result }
-{
-    add_head(heap, bytes, field, text)?;
-    add_line(
-        text,
-        field_line(heap, field.field, field.place, field.width)?,
-    )?;
-    Ok(())
-}
-
-// Puts the line of the record that a field opens behind a text. The record's header stands right before the field.
-fn add_head(heap: Global, bytes: &[u8], field: Entry, text: &mut String) -> Result<(), Halt>
-    requires few { length bytes.now ≤ 99996 }
-    requires placed { Placed bytes.now field }
-    ensures { (l : List Record) → Laid bytes.now l → Opens l field → Grown (string_bytes text.old) (head_line l field field.field) (string_bytes text.new) result }
-{
-    if field.field > 0 {
-        return Ok(());
+impl<'b> Source<'b> {
+    // The lines of all fields, and of the records that they open.
+    fn field_text(&self, fields: &[Entry]) -> Result<String, Halt>
+        requires placed { AllByRecursion (Placed self.now.bytes.now) fields.now }
+        ensures { Printed self.now.bytes.now fields.now result }
+    {
+        let mut text = String::new(self.heap);
+        for field in fields {
+            self.add_field(*field, &mut text)?;
+        }
+        Ok(text)
     }
-    let at = field.place - 11;
-    let head = read_header(&bytes[at..bytes.len()], at)?;
-    let line = record_line(heap, field.record, at, head.data.len(), head.tag)?;
-    add_line(text, line)?;
-    Ok(())
+
+    // Puts the line of a field behind a text, and before it that of the record that the field opens.
+    fn add_field(&self, field: Entry, text: &mut String) -> Result<(), Halt>
+        requires placed { Placed self.now.bytes.now field }
+        ensures { (l : List Record) → Laid self.now.bytes.now l → Opens l field → Grown (string_bytes text.old) (entry_lines l field) (string_bytes text.new) result }
+    {
+        self.add_head(field, text)?;
+        let line = field_line(self.heap, field.field, field.place, field.width)?;
+        add_line(text, line)?;
+        Ok(())
+    }
+
+    // Puts the line of the record that a field opens behind a text. The record's header stands right before the field.
+    fn add_head(&self, field: Entry, text: &mut String) -> Result<(), Halt>
+        requires placed { Placed self.now.bytes.now field }
+        ensures { (l : List Record) → Laid self.now.bytes.now l → Opens l field → Grown (string_bytes text.old) (head_line l field field.field) (string_bytes text.new) result }
+    {
+        if field.field > 0 {
+            return Ok(());
+        }
+        let at = field.place - 11;
+        let head = read_header(&self.bytes[at..self.bytes.len()], at)?;
+        let line = record_line(self.heap, field.record, at, head.data.len(), head.tag)?;
+        add_line(text, line)?;
+        Ok(())
+    }
 }

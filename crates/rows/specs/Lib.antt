@@ -1,5 +1,4 @@
 pub mod Fair
-pub mod Families
 pub mod Sensors
 pub mod Readings
 pub mod Cells

@@ -3,34 +3,24 @@ use Rattle.std.specs.Prelude.{ℕ, Bool, true, false, cond, List, codes}
 use Rattle.std.specs.Str.{bytes_eq}
 use Rattle.rows.specs.declared.code.Code.{Code}
 use Rattle.rows.specs.declared.code.Code.TheVariants as code
+use Rattle.rows.specs.declared.code.LabelCode.{LabelCode}
+use Rattle.rows.specs.declared.code.LabelCode.TheVariants as label_code
+
+abbrev pub is_sensor_label : LabelCode → Bool
+is_sensor_label label_code.Moment = false
+is_sensor_label label_code.Minute = false
+is_sensor_label label_code.Date = false
+is_sensor_label label_code.MissionNumber = false
+is_sensor_label label_code.Turn = false
+is_sensor_label label_code.Replay = false
+is_sensor_label label_code.Sensor = true
+is_sensor_label label_code.Version = false
 
 abbrev pub is_sensor : Code → Bool
-is_sensor code.Number = false
-is_sensor code.Signed = false
-is_sensor code.Angle = false
-is_sensor code.Accuracy = false
-is_sensor code.Spacing = false
-is_sensor code.Focal = false
-is_sensor code.Total = false
-is_sensor code.Text = false
-is_sensor code.MissionName = false
-is_sensor code.AircraftMission = false
-is_sensor code.Capitals = false
-is_sensor code.EndSegment = false
-is_sensor code.Spaces = false
-is_sensor code.Underscore = false
-is_sensor code.Moment = false
-is_sensor code.Minute = false
-is_sensor code.Date = false
-is_sensor code.MissionNumber = false
-is_sensor code.Turn = false
-is_sensor code.Replay = false
-is_sensor code.Sensor = true
-is_sensor code.Version = false
-is_sensor code.Location = false
-is_sensor code.Place = false
-is_sensor code.LengthUnit = false
-is_sensor code.SpacingUnit = false
+is_sensor (code.Figure k) = false
+is_sensor (code.Writing k) = false
+is_sensor (code.Label k) = is_sensor_label k
+is_sensor (code.Spot k) = false
 
 -- after a field of this kind, spelled s
 abbrev pub flag : Code → Bool → List ℕ → Bool

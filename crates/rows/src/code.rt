@@ -1,6 +1,6 @@
-// Which kind reads a field.
-#[derive(Clone, Copy)]
-pub enum Code {
+// Codes of what is counted or measured.
+#[derive(Clone, Copy, PartialEq, Eq, Debug)]
+pub enum FigureCode {
     // Digits, from low to high.
     Number,
     // A sign and five digits, from minus low to plus high.
@@ -15,6 +15,11 @@ pub enum Code {
     Focal,
     // Digits up to high after SAR, and zeros only after any other sensor.
     Total,
+}
+
+// Codes of what is written out.
+#[derive(Clone, Copy, PartialEq, Eq, Debug)]
+pub enum WritingCode {
     // Printable bytes, not all spaces.
     Text,
     // NOT AVAIL. or else text.
@@ -29,6 +34,11 @@ pub enum Code {
     Spaces,
     // An underscore.
     Underscore,
+}
+
+// Codes of dates, times and codes.
+#[derive(Clone, Copy, PartialEq, Eq, Debug)]
+pub enum LabelCode {
     // Year, month, day, hour, minute and second.
     Moment,
     // Year, month, day, hour and minute.
@@ -45,6 +55,11 @@ pub enum Code {
     Sensor,
     // Four digits, a point and two digits.
     Version,
+}
+
+// Codes of places and their units.
+#[derive(Clone, Copy, PartialEq, Eq, Debug)]
+pub enum SpotCode {
     // Latitude and longitude in degrees and minutes.
     Location,
     // Latitude and longitude in degrees, minutes and seconds, or else in decimal degrees.
@@ -53,4 +68,13 @@ pub enum Code {
     LengthUnit,
     // f, m, r or u.
     SpacingUnit,
+}
+
+// Which kind reads a field.
+#[derive(Clone, Copy, PartialEq, Eq, Debug)]
+pub enum Code {
+    Figure(FigureCode),
+    Writing(WritingCode),
+    Label(LabelCode),
+    Spot(SpotCode),
 }

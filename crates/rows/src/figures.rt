@@ -1,17 +1,18 @@
 ghost use Rattle.std.specs.Prelude.{◌≡◌, if◌then◌else◌};
 ghost use Rattle.kind.specs.Kinds.{Told, Checked, Spelled};
-ghost use Rattle.rows.specs.declared.family.Family.TheVariants.{Figure as Mine};
-ghost use Rattle.rows.specs.Families.{family_of};
+ghost use Rattle.rows.specs.Readings.{Reading};
 ghost use Rattle.rows.specs.Readings.Reading.{figure};
-ghost use Rattle.rows.specs.Slots.{kind_of};
+ghost use Rattle.rows.specs.Cells.{figure_plain, figure_laws};
+ghost use Rattle.rows.specs.Fair.{figure_fair};
 
-use super::cell::Cell;
-use super::code::Code;
+use super::code::FigureCode;
+use super::sort::{Group, Sort};
 use super::value::Figure;
 use fields::accuracy::Accuracies;
 use fields::focal::FocalLengths;
 use fields::spacing::PixelSpacings;
 use kind::Kind;
+use kind::compound::Built;
 use kinds::number::Number;
 use kinds::point::Point;
 use kinds::refuse::no_reading;
@@ -25,80 +26,86 @@ fn limit(high: u64, sar: bool) -> u64
     if sar { high } else { 0 }
 }
 
-// The kinds that a row makes, each said once.
+// The kinds that a row makes, each said once; a function for each would need a requires that says the code again.
 macro_rules! kind_of {
-    (Number, $row:expr) => {
-        Number { width: $row.width as usize, low: $row.low, high: $row.high }
+    (Number, $sort:expr) => {
+        Number { width: usize::from($sort.cell.row.width), low: $sort.cell.row.low, high: $sort.cell.row.high }
     };
-    (Signed, $row:expr) => {
-        Signed { digits: 5, below: $row.low, above: $row.high }
+    (Signed, $sort:expr) => {
+        Signed { digits: 5, below: $sort.cell.row.low, above: $sort.cell.row.high }
     };
-    (Angle, $row:expr) => {
-        Point { whole: 3, places: 3, low: $row.low, high: $row.high }
+    (Angle, $sort:expr) => {
+        Point { whole: 3, places: 3, low: $sort.cell.row.low, high: $sort.cell.row.high }
     };
-    (Accuracy, $row:expr) => {
-        Accuracies { low: $row.low, high: $row.high }
+    (Accuracy, $sort:expr) => {
+        Built::of(Accuracies { low: $sort.cell.row.low, high: $sort.cell.row.high })
     };
-    (Spacing, $row:expr) => {
-        PixelSpacings { low: $row.low, high: $row.high }
+    (Spacing, $sort:expr) => {
+        Built::of(PixelSpacings { low: $sort.cell.row.low, high: $sort.cell.row.high })
     };
-    (Focal, $row:expr) => {
-        FocalLengths { low: $row.low, high: $row.high }
+    (Focal, $sort:expr) => {
+        Built::of(FocalLengths { low: $sort.cell.row.low, high: $sort.cell.row.high })
     };
-    (Total, $row:expr, $sar:expr) => {
-        Number { width: $row.width as usize, low: 0, high: limit($row.high, $sar) }
+    (Total, $sort:expr) => {
+        Number { width: usize::from($sort.cell.row.width), low: 0, high: limit($sort.cell.row.high, $sort.cell.sar) }
     };
 }
 
-pub fn check(cell: &Cell, s: &[u8]) -> Result<(), Fault>
-    requires { family_of cell.now.row.kind ≡ Mine }
-    ensures { Checked (kind_of cell.now.row cell.now.sar) s.now result }
-{
-    let row = cell.row;
-    match row.kind {
-        Code::Number => kind_of!(Number, row).check(s),
-        Code::Signed => kind_of!(Signed, row).check(s),
-        Code::Angle => kind_of!(Angle, row).check(s),
-        Code::Accuracy => kind_of!(Accuracy, row).check(s),
-        Code::Spacing => kind_of!(Spacing, row).check(s),
-        Code::Focal => kind_of!(Focal, row).check(s),
-        Code::Total => kind_of!(Total, row, cell.sar).check(s),
-        _ => Err(no_reading()),
+impl Group for FigureCode {
+    ghost fair = { figure_fair };
+}
+
+impl<'a> Kind<'a> for Sort<FigureCode> {
+    type Value = Figure;
+
+    ghost Val = { Reading };
+
+    ghost view = { figure };
+
+    ghost wide = { λ k. k.cell.row.width };
+
+    ghost reads = { λ k. figure_plain k.code k.cell.row.width k.cell.row.low k.cell.row.high k.cell.sar };
+
+    ghost laws = { λ k. figure_laws k.code k.cell.row.width k.cell.row.low k.cell.row.high k.cell.sar k.ok };
+
+    fn width(&self) -> usize {
+        usize::from(self.cell.row.width)
     }
-}
 
-pub fn read(cell: &Cell, s: &[u8]) -> Result<Figure, Fault>
-    requires { family_of cell.now.row.kind ≡ Mine }
-    ensures { Told figure (kind_of cell.now.row cell.now.sar) s.now result }
-{
-    let row = cell.row;
-    match row.kind {
-        Code::Number => map_ok!(kind_of!(Number, row).read(s), v => Figure::Number(v)),
-        Code::Signed => map_ok!(kind_of!(Signed, row).read(s), v => Figure::Signed(v)),
-        Code::Angle => map_ok!(kind_of!(Angle, row).read(s), v => Figure::Decimal(v)),
-        Code::Accuracy => map_ok!(kind_of!(Accuracy, row).read(s), v => Figure::Accuracy(v)),
-        Code::Spacing => map_ok!(kind_of!(Spacing, row).read(s), v => Figure::Spacing(v)),
-        Code::Focal => map_ok!(kind_of!(Focal, row).read(s), v => Figure::Focal(v)),
-        Code::Total => map_ok!(kind_of!(Total, row, cell.sar).read(s), v => Figure::Number(v)),
-        _ => Err(no_reading()),
+    fn check(&self, s: &[u8]) -> Result<(), Fault> {
+        match self.code {
+            FigureCode::Number => kind_of!(Number, self).check(s),
+            FigureCode::Signed => kind_of!(Signed, self).check(s),
+            FigureCode::Angle => kind_of!(Angle, self).check(s),
+            FigureCode::Accuracy => kind_of!(Accuracy, self).check(s),
+            FigureCode::Spacing => kind_of!(Spacing, self).check(s),
+            FigureCode::Focal => kind_of!(Focal, self).check(s),
+            FigureCode::Total => kind_of!(Total, self).check(s),
+        }
     }
-}
 
-pub fn spell(cell: &Cell, value: &Figure, out: &mut [u8]) -> Result<(), Fault>
-    requires { family_of cell.now.row.kind ≡ Mine }
-    ensures { Spelled (kind_of cell.now.row cell.now.sar) (figure value.now) out.old out.new result }
-{
-    let row = cell.row;
-    match row.kind {
-        Code::Number => if_is!(value, Figure::Number(v) => kind_of!(Number, row).spell(v, out)),
-        Code::Signed => if_is!(value, Figure::Signed(v) => kind_of!(Signed, row).spell(v, out)),
-        Code::Angle => if_is!(value, Figure::Decimal(v) => kind_of!(Angle, row).spell(v, out)),
-        Code::Accuracy =>
-            if_is!(value, Figure::Accuracy(v) => kind_of!(Accuracy, row).spell(v, out)),
-        Code::Spacing => if_is!(value, Figure::Spacing(v) => kind_of!(Spacing, row).spell(v, out)),
-        Code::Focal => if_is!(value, Figure::Focal(v) => kind_of!(Focal, row).spell(v, out)),
-        Code::Total =>
-            if_is!(value, Figure::Number(v) => kind_of!(Total, row, cell.sar).spell(v, out)),
-        _ => Err(no_reading()),
+    fn read(&self, s: &'a [u8]) -> Result<Figure, Fault> {
+        match self.code {
+            FigureCode::Number => kind_of!(Number, self).read(s).map(Figure::Number),
+            FigureCode::Signed => kind_of!(Signed, self).read(s).map(Figure::Signed),
+            FigureCode::Angle => kind_of!(Angle, self).read(s).map(Figure::Decimal),
+            FigureCode::Accuracy => kind_of!(Accuracy, self).read(s).map(Figure::Accuracy),
+            FigureCode::Spacing => kind_of!(Spacing, self).read(s).map(Figure::Spacing),
+            FigureCode::Focal => kind_of!(Focal, self).read(s).map(Figure::Focal),
+            FigureCode::Total => kind_of!(Total, self).read(s).map(Figure::Number),
+        }
+    }
+
+    fn spell(&self, value: &Figure, out: &mut [u8]) -> Result<(), Fault> {
+        match (self.code, value) {
+            (FigureCode::Number, Figure::Number(v)) => kind_of!(Number, self).spell(v, out),
+            (FigureCode::Signed, Figure::Signed(v)) => kind_of!(Signed, self).spell(v, out),
+            (FigureCode::Angle, Figure::Decimal(v)) => kind_of!(Angle, self).spell(v, out),
+            (FigureCode::Accuracy, Figure::Accuracy(v)) => kind_of!(Accuracy, self).spell(v, out),
+            (FigureCode::Spacing, Figure::Spacing(v)) => kind_of!(Spacing, self).spell(v, out),
+            (FigureCode::Focal, Figure::Focal(v)) => kind_of!(Focal, self).spell(v, out),
+            (FigureCode::Total, Figure::Number(v)) => kind_of!(Total, self).spell(v, out),
+            _ => Err(no_reading()),
+        }
     }
 }

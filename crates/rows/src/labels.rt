@@ -1,80 +1,93 @@
 ghost use Rattle.std.specs.Prelude.{◌≡◌};
 ghost use Rattle.kind.specs.Kinds.{Told, Checked, Spelled};
-ghost use Rattle.rows.specs.declared.family.Family.TheVariants.{Label as Mine};
-ghost use Rattle.rows.specs.Families.{family_of};
+ghost use Rattle.rows.specs.Readings.{Reading};
 ghost use Rattle.rows.specs.Readings.Reading.{label};
-ghost use Rattle.rows.specs.Slots.{kind_of};
+ghost use Rattle.rows.specs.Cells.{label_plain, label_laws};
+ghost use Rattle.rows.specs.Fair.{label_fair};
 
-use super::cell::Cell;
-use super::code::Code;
+use super::code::LabelCode;
+use super::sort::{Group, Sort};
 use super::value::Label;
 use codes::mission::Missions;
 use codes::replay::Replays;
 use codes::sensor::Sensors;
 use codes::turn::Turns;
 use codes::version::Versions;
-use fields::stamp::{DateStamps, MinuteStamps, MomentStamps};
+use dates::calendar::CalendarDates;
+use dates::minute::minutes::Minutes;
+use dates::moment::moments::Moments;
 use kind::Kind;
+use kind::compound::Built;
 use kinds::refuse::no_reading;
 use refusal::fault::Fault;
 
-// The kinds that a row makes, each said once.
+// The kinds that a row makes, each said once; a function for each would need a requires that says the code again.
 macro_rules! kind_of {
-    (Turn, $row:expr) => {
-        Turns { low: $row.low, high: $row.high }
+    (Turn, $sort:expr) => {
+        Built::<'a, _>::of(Turns { low: $sort.cell.row.low, high: $sort.cell.row.high })
     };
 }
 
-pub fn check(cell: &Cell, s: &[u8]) -> Result<(), Fault>
-    requires { family_of cell.now.row.kind ≡ Mine }
-    ensures { Checked (kind_of cell.now.row cell.now.sar) s.now result }
-{
-    let row = cell.row;
-    match row.kind {
-        Code::Moment => MomentStamps.check(s),
-        Code::Minute => MinuteStamps.check(s),
-        Code::Date => DateStamps.check(s),
-        Code::MissionNumber => Missions.check(s),
-        Code::Turn => kind_of!(Turn, row).check(s),
-        Code::Replay => Replays.check(s),
-        Code::Sensor => Sensors.check(s),
-        Code::Version => Versions.check(s),
-        _ => Err(no_reading()),
-    }
+impl Group for LabelCode {
+    ghost fair = { label_fair };
 }
 
-pub fn read(cell: &Cell, s: &[u8]) -> Result<Label, Fault>
-    requires { family_of cell.now.row.kind ≡ Mine }
-    ensures { Told label (kind_of cell.now.row cell.now.sar) s.now result }
-{
-    let row = cell.row;
-    match row.kind {
-        Code::Moment => map_ok!(MomentStamps.read(s), v => Label::Moment(v)),
-        Code::Minute => map_ok!(MinuteStamps.read(s), v => Label::Minute(v)),
-        Code::Date => map_ok!(DateStamps.read(s), v => Label::Date(v)),
-        Code::MissionNumber => map_ok!(Missions.read(s), v => Label::Mission(v)),
-        Code::Turn => map_ok!(kind_of!(Turn, row).read(s), v => Label::Turn(v)),
-        Code::Replay => map_ok!(Replays.read(s), v => Label::Replay(v)),
-        Code::Sensor => map_ok!(Sensors.read(s), v => Label::Sensor(v)),
-        Code::Version => map_ok!(Versions.read(s), v => Label::Version(v)),
-        _ => Err(no_reading()),
-    }
-}
+impl<'a> Kind<'a> for Sort<LabelCode> {
+    type Value = Label;
 
-pub fn spell(cell: &Cell, value: &Label, out: &mut [u8]) -> Result<(), Fault>
-    requires { family_of cell.now.row.kind ≡ Mine }
-    ensures { Spelled (kind_of cell.now.row cell.now.sar) (label value.now) out.old out.new result }
-{
-    let row = cell.row;
-    match row.kind {
-        Code::Moment => if_is!(value, Label::Moment(v) => MomentStamps.spell(v, out)),
-        Code::Minute => if_is!(value, Label::Minute(v) => MinuteStamps.spell(v, out)),
-        Code::Date => if_is!(value, Label::Date(v) => DateStamps.spell(v, out)),
-        Code::MissionNumber => if_is!(value, Label::Mission(v) => Missions.spell(v, out)),
-        Code::Turn => if_is!(value, Label::Turn(v) => kind_of!(Turn, row).spell(v, out)),
-        Code::Replay => if_is!(value, Label::Replay(v) => Replays.spell(v, out)),
-        Code::Sensor => if_is!(value, Label::Sensor(v) => Sensors.spell(v, out)),
-        Code::Version => if_is!(value, Label::Version(v) => Versions.spell(v, out)),
-        _ => Err(no_reading()),
+    ghost Val = { Reading };
+
+    ghost view = { label };
+
+    ghost wide = { λ k. k.cell.row.width };
+
+    ghost reads = { λ k. label_plain k.code k.cell.row.width k.cell.row.low k.cell.row.high k.cell.sar };
+
+    ghost laws = { λ k. label_laws k.code k.cell.row.width k.cell.row.low k.cell.row.high k.cell.sar k.ok };
+
+    fn width(&self) -> usize {
+        usize::from(self.cell.row.width)
+    }
+
+    fn check(&self, s: &[u8]) -> Result<(), Fault> {
+        match self.code {
+            LabelCode::Moment => Built::<'a, _>::of(Moments).check(s),
+            LabelCode::Minute => Built::<'a, _>::of(Minutes).check(s),
+            LabelCode::Date => Built::<'a, _>::of(CalendarDates).check(s),
+            LabelCode::MissionNumber => Built::<'a, _>::of(Missions).check(s),
+            LabelCode::Turn => kind_of!(Turn, self).check(s),
+            LabelCode::Replay => Built::<'a, _>::of(Replays).check(s),
+            LabelCode::Sensor => Built::<'a, _>::of(Sensors).check(s),
+            LabelCode::Version => Built::<'a, _>::of(Versions).check(s),
+        }
+    }
+
+    fn read(&self, s: &'a [u8]) -> Result<Label, Fault> {
+        match self.code {
+            LabelCode::Moment => Built::<'a, _>::of(Moments).read(s).map(Label::Moment),
+            LabelCode::Minute => Built::<'a, _>::of(Minutes).read(s).map(Label::Minute),
+            LabelCode::Date => Built::<'a, _>::of(CalendarDates).read(s).map(Label::Date),
+            LabelCode::MissionNumber => Built::<'a, _>::of(Missions).read(s).map(Label::Mission),
+            LabelCode::Turn => kind_of!(Turn, self).read(s).map(Label::Turn),
+            LabelCode::Replay => Built::<'a, _>::of(Replays).read(s).map(Label::Replay),
+            LabelCode::Sensor => Built::<'a, _>::of(Sensors).read(s).map(Label::Sensor),
+            LabelCode::Version => Built::<'a, _>::of(Versions).read(s).map(Label::Version),
+        }
+    }
+
+    fn spell(&self, value: &Label, out: &mut [u8]) -> Result<(), Fault> {
+        match (self.code, value) {
+            (LabelCode::Moment, Label::Moment(v)) => Built::<'a, _>::of(Moments).spell(v, out),
+            (LabelCode::Minute, Label::Minute(v)) => Built::<'a, _>::of(Minutes).spell(v, out),
+            (LabelCode::Date, Label::Date(v)) => Built::<'a, _>::of(CalendarDates).spell(v, out),
+            (LabelCode::MissionNumber, Label::Mission(v)) => Built::<'a, _>::of(Missions).spell(
+                v, out,
+            ),
+            (LabelCode::Turn, Label::Turn(v)) => kind_of!(Turn, self).spell(v, out),
+            (LabelCode::Replay, Label::Replay(v)) => Built::<'a, _>::of(Replays).spell(v, out),
+            (LabelCode::Sensor, Label::Sensor(v)) => Built::<'a, _>::of(Sensors).spell(v, out),
+            (LabelCode::Version, Label::Version(v)) => Built::<'a, _>::of(Versions).spell(v, out),
+            _ => Err(no_reading()),
+        }
     }
 }

@@ -25,9 +25,10 @@ impl<'a> Kind<'a> for Slot {
     fn width(&self) -> usize
         ensures { result ≡ self.now.cell.row.width }
     {
-        self.cell.row.width as usize
+        usize::from(self.cell.row.width)
     }
 
+    #[tactic(auto, unfolding(crate::specs::Slots::slot))]
     fn check(&self, s: &[u8]) -> Result<(), Fault>
         ensures { Checked (slot self.now.cell.row self.now.cell.sar) s.now result }
     {
@@ -37,21 +38,24 @@ impl<'a> Kind<'a> for Slot {
         self.cell.check(s)
     }
 
+    #[tactic(auto, unfolding(crate::specs::Slots::slot))]
     fn read(&self, s: &'a [u8]) -> Result<Option<FieldValue<'a>>, Fault>
         ensures { Told seen (slot self.now.cell.row self.now.cell.sar) s.now result }
     {
         if self.cell.row.blank {
             return Blank { below: self.cell }.read(s);
         }
-        Ok(Some(self.cell.read(s)?))
+        self.cell.read(s).map(Some)
     }
 
+    #[tactic(auto, unfolding(crate::specs::Slots::slot))]
     fn spell(&self, value: &Option<FieldValue<'a>>, out: &mut [u8]) -> Result<(), Fault>
         ensures { Spelled (slot self.now.cell.row self.now.cell.sar) (seen value.now) out.old out.new result }
     {
         if self.cell.row.blank {
             return Blank { below: self.cell }.spell(value, out);
         }
+        // A match: tried with ok_or and `?`, where the proof no longer sees what the value was.
         match value {
             Some(v) => self.cell.spell(v, out),
             None => Err(no_reading()),

@@ -1,59 +1,67 @@
 ghost use Rattle.std.specs.Prelude.{◌≡◌};
 ghost use Rattle.kind.specs.Kinds.{Told, Checked, Spelled};
-ghost use Rattle.rows.specs.declared.family.Family.TheVariants.{Spot as Mine};
-ghost use Rattle.rows.specs.Families.{family_of};
+ghost use Rattle.rows.specs.Readings.{Reading};
 ghost use Rattle.rows.specs.Readings.Reading.{spot};
-ghost use Rattle.rows.specs.Slots.{kind_of};
+ghost use Rattle.rows.specs.Cells.{spot_plain, spot_laws};
+ghost use Rattle.rows.specs.Fair.{spot_fair};
 
-use super::cell::Cell;
-use super::code::Code;
+use super::code::SpotCode;
+use super::sort::{Group, Sort};
 use super::value::Spot;
-use codes::unit::{Lengths, Spacings};
+use codes::units::{lengths, spacings};
 use kind::Kind;
-use kinds::listed::{Codes, Listed};
+use kind::compound::Built;
 use kinds::refuse::no_reading;
 use places::location::Locations;
 use places::place::Places;
 use refusal::fault::Fault;
 
-pub fn check(cell: &Cell, s: &[u8]) -> Result<(), Fault>
-    requires { family_of cell.now.row.kind ≡ Mine }
-    ensures { Checked (kind_of cell.now.row cell.now.sar) s.now result }
-{
-    let row = cell.row;
-    match row.kind {
-        Code::Location => Locations.check(s),
-        Code::Place => Places.check(s),
-        Code::LengthUnit => Codes { list: Lengths }.check(s),
-        Code::SpacingUnit => Codes { list: Spacings }.check(s),
-        _ => Err(no_reading()),
-    }
+impl Group for SpotCode {
+    ghost fair = { spot_fair };
 }
 
-pub fn read(cell: &Cell, s: &[u8]) -> Result<Spot, Fault>
-    requires { family_of cell.now.row.kind ≡ Mine }
-    ensures { Told spot (kind_of cell.now.row cell.now.sar) s.now result }
-{
-    let row = cell.row;
-    match row.kind {
-        Code::Location => map_ok!(Locations.read(s), v => Spot::Location(v)),
-        Code::Place => map_ok!(Places.read(s), v => Spot::Place(v)),
-        Code::LengthUnit => map_ok!(Codes { list: Lengths }.read(s), v => Spot::Unit(v)),
-        Code::SpacingUnit => map_ok!(Codes { list: Spacings }.read(s), v => Spot::Unit(v)),
-        _ => Err(no_reading()),
-    }
-}
+impl<'a> Kind<'a> for Sort<SpotCode> {
+    type Value = Spot;
 
-pub fn spell(cell: &Cell, value: &Spot, out: &mut [u8]) -> Result<(), Fault>
-    requires { family_of cell.now.row.kind ≡ Mine }
-    ensures { Spelled (kind_of cell.now.row cell.now.sar) (spot value.now) out.old out.new result }
-{
-    let row = cell.row;
-    match row.kind {
-        Code::Location => if_is!(value, Spot::Location(v) => Locations.spell(v, out)),
-        Code::Place => if_is!(value, Spot::Place(v) => Places.spell(v, out)),
-        Code::LengthUnit => if_is!(value, Spot::Unit(v) => Codes { list: Lengths }.spell(v, out)),
-        Code::SpacingUnit => if_is!(value, Spot::Unit(v) => Codes { list: Spacings }.spell(v, out)),
-        _ => Err(no_reading()),
+    ghost Val = { Reading };
+
+    ghost view = { spot };
+
+    ghost wide = { λ k. k.cell.row.width };
+
+    ghost reads = { λ k. spot_plain k.code k.cell.row.width k.cell.row.low k.cell.row.high k.cell.sar };
+
+    ghost laws = { λ k. spot_laws k.code k.cell.row.width k.cell.row.low k.cell.row.high k.cell.sar k.ok };
+
+    fn width(&self) -> usize {
+        usize::from(self.cell.row.width)
+    }
+
+    fn check(&self, s: &[u8]) -> Result<(), Fault> {
+        match self.code {
+            SpotCode::Location => Built::<'a, _>::of(Locations).check(s),
+            SpotCode::Place => Built::<'a, _>::of(Places).check(s),
+            SpotCode::LengthUnit => lengths().check(s),
+            SpotCode::SpacingUnit => spacings().check(s),
+        }
+    }
+
+    fn read(&self, s: &'a [u8]) -> Result<Spot, Fault> {
+        match self.code {
+            SpotCode::Location => Built::<'a, _>::of(Locations).read(s).map(Spot::Location),
+            SpotCode::Place => Built::<'a, _>::of(Places).read(s).map(Spot::Place),
+            SpotCode::LengthUnit => lengths().read(s).map(Spot::Unit),
+            SpotCode::SpacingUnit => spacings().read(s).map(Spot::Unit),
+        }
+    }
+
+    fn spell(&self, value: &Spot, out: &mut [u8]) -> Result<(), Fault> {
+        match (self.code, value) {
+            (SpotCode::Location, Spot::Location(v)) => Built::<'a, _>::of(Locations).spell(v, out),
+            (SpotCode::Place, Spot::Place(v)) => Built::<'a, _>::of(Places).spell(v, out),
+            (SpotCode::LengthUnit, Spot::Unit(v)) => lengths().spell(v, out),
+            (SpotCode::SpacingUnit, Spot::Unit(v)) => spacings().spell(v, out),
+            _ => Err(no_reading()),
+        }
     }
 }

@@ -4,12 +4,14 @@ use codes::sensor::Sensor;
 use codes::turn::Turn;
 use codes::unit::Unit;
 use codes::version::Version;
+use dates::calendar::CalendarDate;
+use dates::minute::Minute;
+use dates::moment::Moment;
 use fields::accuracy::Accuracy;
 use fields::focal::FocalLength;
 use fields::name::Name;
 use fields::segment::EndSegment;
 use fields::spacing::PixelSpacing;
-use fields::stamp::{DateStamp, MinuteStamp, MomentStamp};
 use kinds::capital::Letters;
 use kinds::point::Decimal;
 use kinds::text::TextBytes;
@@ -17,7 +19,7 @@ use places::location::Location;
 use places::place::Place;
 
 // What is counted or measured.
-#[derive(Clone, Copy)]
+#[derive(Clone, Copy, PartialEq, Eq, Debug)]
 pub enum Figure {
     Number(u64),
     Signed(i64),
@@ -28,7 +30,7 @@ pub enum Figure {
 }
 
 // What is written out; its bytes are part of what was read.
-#[derive(Clone, Copy)]
+#[derive(Clone, Copy, PartialEq, Eq, Debug)]
 pub enum Writing<'a> {
     Text(TextBytes<'a>),
     Name(Name<'a>),
@@ -39,11 +41,11 @@ pub enum Writing<'a> {
 }
 
 // A date, a time or a code.
-#[derive(Clone, Copy)]
+#[derive(Clone, Copy, PartialEq, Eq, Debug)]
 pub enum Label {
-    Moment(MomentStamp),
-    Minute(MinuteStamp),
-    Date(DateStamp),
+    Moment(Moment),
+    Minute(Minute),
+    Date(CalendarDate),
     Mission(Mission),
     Turn(Turn),
     Replay(Replay),
@@ -52,7 +54,7 @@ pub enum Label {
 }
 
 // What is said of places and their units.
-#[derive(Clone, Copy)]
+#[derive(Clone, Copy, PartialEq, Eq, Debug)]
 pub enum Spot {
     Location(Location),
     Place(Place),
@@ -60,7 +62,7 @@ pub enum Spot {
 }
 
 // What a field that is not absent reads as.
-#[derive(Clone, Copy)]
+#[derive(Clone, Copy, PartialEq, Eq, Debug)]
 pub enum FieldValue<'a> {
     Figure(Figure),
     Writing(Writing<'a>),

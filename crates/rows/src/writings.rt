@@ -1,17 +1,17 @@
 ghost use Rattle.std.specs.Prelude.{◌≡◌};
 ghost use Rattle.kind.specs.Kinds.{Told, Checked, Spelled};
-ghost use Rattle.rows.specs.declared.family.Family.TheVariants.{Writing as Mine};
-ghost use Rattle.rows.specs.Families.{family_of};
-ghost use Rattle.rows.specs.Readings.{seen_writing};
+ghost use Rattle.rows.specs.Readings.{Reading, seen_writing};
 ghost use Rattle.rows.specs.Readings.Reading.{writing};
-ghost use Rattle.rows.specs.Slots.{kind_of};
+ghost use Rattle.rows.specs.Cells.{writing_plain, writing_laws};
+ghost use Rattle.rows.specs.Fair.{writing_fair};
 
-use super::cell::Cell;
-use super::code::Code;
+use super::code::WritingCode;
+use super::sort::{Group, Sort};
 use super::value::Writing;
 use fields::name::Names;
 use fields::segment::EndSegments;
 use kind::Kind;
+use kind::compound::Built;
 use kinds::capital::Capitals;
 use kinds::refuse::no_reading;
 use kinds::space::Spaces;
@@ -31,69 +31,94 @@ const AIRCRAFT_MISSION: Names = Names {
     },
 };
 
-const UNDERSCORE: Word = Word { bytes: b"_" };
+const UNDERSCORE: Word<'static> = Word { bytes: b"_" };
 
-// The kinds that a row makes, each said once.
+// The kinds that a row makes, each said once; a function for each would need a requires that says the code again.
 macro_rules! kind_of {
-    (Text, $row:expr) => {
-        Text { width: $row.width as usize }
+    (Text, $sort:expr) => {
+        Text { width: usize::from($sort.cell.row.width) }
     };
-    (Capitals, $row:expr) => {
-        Capitals { width: $row.width as usize }
+    (Capitals, $sort:expr) => {
+        Capitals { width: usize::from($sort.cell.row.width) }
     };
-    (Spaces, $row:expr) => {
-        Spaces { width: $row.width as usize }
+    (Spaces, $sort:expr) => {
+        Spaces { width: usize::from($sort.cell.row.width) }
     };
 }
 
-pub fn check(cell: &Cell, s: &[u8]) -> Result<(), Fault>
-    requires { family_of cell.now.row.kind ≡ Mine }
-    ensures { Checked (kind_of cell.now.row cell.now.sar) s.now result }
-{
-    let row = cell.row;
-    match row.kind {
-        Code::Text => kind_of!(Text, row).check(s),
-        Code::MissionName => MISSION_NAME.check(s),
-        Code::AircraftMission => AIRCRAFT_MISSION.check(s),
-        Code::Capitals => kind_of!(Capitals, row).check(s),
-        Code::EndSegment => EndSegments.check(s),
-        Code::Spaces => kind_of!(Spaces, row).check(s),
-        Code::Underscore => UNDERSCORE.check(s),
-        _ => Err(no_reading()),
+impl Group for WritingCode {
+    ghost fair = { writing_fair };
+}
+
+impl<'a> Kind<'a> for Sort<WritingCode> {
+    type Value = Writing<'a>;
+
+    ghost Val = { Reading };
+
+    ghost view = { λ v. writing (seen_writing v) };
+
+    ghost wide = { λ k. k.cell.row.width };
+
+    ghost reads = { λ k. writing_plain k.code k.cell.row.width k.cell.row.low k.cell.row.high k.cell.sar };
+
+    ghost laws = { λ k. writing_laws k.code k.cell.row.width k.cell.row.low k.cell.row.high k.cell.sar k.ok };
+
+    fn width(&self) -> usize
+        ensures { result ≡ self.now.cell.row.width }
+    {
+        usize::from(self.cell.row.width)
     }
-}
 
-pub fn read<'a>(cell: &Cell, s: &'a [u8]) -> Result<Writing<'a>, Fault>
-    requires { family_of cell.now.row.kind ≡ Mine }
-    ensures { Told (λ v. writing (seen_writing v)) (kind_of cell.now.row cell.now.sar) s.now result }
-{
-    let row = cell.row;
-    match row.kind {
-        Code::Text => map_ok!(kind_of!(Text, row).read(s), v => Writing::Text(v)),
-        Code::MissionName => map_ok!(MISSION_NAME.read(s), v => Writing::Name(v)),
-        Code::AircraftMission => map_ok!(AIRCRAFT_MISSION.read(s), v => Writing::Name(v)),
-        Code::Capitals => map_ok!(kind_of!(Capitals, row).read(s), v => Writing::Letters(v)),
-        Code::EndSegment => map_ok!(EndSegments.read(s), v => Writing::EndSegment(v)),
-        Code::Spaces => map_ok!(kind_of!(Spaces, row).read(s), () => Writing::Spaces),
-        Code::Underscore => map_ok!(UNDERSCORE.read(s), () => Writing::Underscore),
-        _ => Err(no_reading()),
+    fn check(&self, s: &[u8]) -> Result<(), Fault>
+        ensures { Checked (writing_plain self.now.code self.now.cell.row.width self.now.cell.row.low self.now.cell.row.high self.now.cell.sar) s.now result }
+    {
+        match self.code {
+            WritingCode::Text => kind_of!(Text, self).check(s),
+            WritingCode::MissionName => Built::<'a, _>::of(MISSION_NAME).check(s),
+            WritingCode::AircraftMission => Built::<'a, _>::of(AIRCRAFT_MISSION).check(s),
+            WritingCode::Capitals => kind_of!(Capitals, self).check(s),
+            WritingCode::EndSegment => Built::<'a, _>::of(EndSegments).check(s),
+            WritingCode::Spaces => kind_of!(Spaces, self).check(s),
+            WritingCode::Underscore => UNDERSCORE.check(s),
+        }
     }
-}
 
-pub fn spell<'a>(cell: &Cell, value: &Writing<'a>, out: &mut [u8]) -> Result<(), Fault>
-    requires { family_of cell.now.row.kind ≡ Mine }
-    ensures { Spelled (kind_of cell.now.row cell.now.sar) (writing (seen_writing value.now)) out.old out.new result }
-{
-    let row = cell.row;
-    match row.kind {
-        Code::Text => if_is!(value, Writing::Text(v) => kind_of!(Text, row).spell(v, out)),
-        Code::MissionName => if_is!(value, Writing::Name(v) => MISSION_NAME.spell(v, out)),
-        Code::AircraftMission => if_is!(value, Writing::Name(v) => AIRCRAFT_MISSION.spell(v, out)),
-        Code::Capitals =>
-            if_is!(value, Writing::Letters(v) => kind_of!(Capitals, row).spell(v, out)),
-        Code::EndSegment => if_is!(value, Writing::EndSegment(v) => EndSegments.spell(v, out)),
-        Code::Spaces => if_is!(value, Writing::Spaces => kind_of!(Spaces, row).spell(&(), out)),
-        Code::Underscore => if_is!(value, Writing::Underscore => UNDERSCORE.spell(&(), out)),
-        _ => Err(no_reading()),
+    fn read(&self, s: &'a [u8]) -> Result<Writing<'a>, Fault>
+        ensures { Told (λ v. writing (seen_writing v)) (writing_plain self.now.code self.now.cell.row.width self.now.cell.row.low self.now.cell.row.high self.now.cell.sar) s.now result }
+    {
+        match self.code {
+            WritingCode::Text => kind_of!(Text, self).read(s).map(Writing::Text),
+            WritingCode::MissionName => Built::<'a, _>::of(MISSION_NAME).read(s).map(Writing::Name),
+            WritingCode::AircraftMission => Built::<'a, _>::of(AIRCRAFT_MISSION)
+                .read(s)
+                .map(Writing::Name),
+            WritingCode::Capitals => kind_of!(Capitals, self).read(s).map(Writing::Letters),
+            WritingCode::EndSegment => Built::<'a, _>::of(EndSegments)
+                .read(s)
+                .map(Writing::EndSegment),
+            WritingCode::Spaces => kind_of!(Spaces, self).read(s).map(|()| Writing::Spaces),
+            WritingCode::Underscore => UNDERSCORE.read(s).map(|()| Writing::Underscore),
+        }
+    }
+
+    fn spell(&self, value: &Writing<'a>, out: &mut [u8]) -> Result<(), Fault>
+        ensures { Spelled (writing_plain self.now.code self.now.cell.row.width self.now.cell.row.low self.now.cell.row.high self.now.cell.sar) (writing (seen_writing value.now)) out.old out.new result }
+    {
+        match (self.code, value) {
+            (WritingCode::Text, Writing::Text(v)) => kind_of!(Text, self).spell(v, out),
+            (WritingCode::MissionName, Writing::Name(v)) => Built::<'a, _>::of(MISSION_NAME).spell(
+                v, out,
+            ),
+            (WritingCode::AircraftMission, Writing::Name(v)) => Built::<'a, _>::of(
+                AIRCRAFT_MISSION,
+            ).spell(v, out),
+            (WritingCode::Capitals, Writing::Letters(v)) => kind_of!(Capitals, self).spell(v, out),
+            (WritingCode::EndSegment, Writing::EndSegment(v)) => Built::<'a, _>::of(
+                EndSegments,
+            ).spell(v, out),
+            (WritingCode::Spaces, Writing::Spaces) => kind_of!(Spaces, self).spell(&(), out),
+            (WritingCode::Underscore, Writing::Underscore) => UNDERSCORE.spell(&(), out),
+            _ => Err(no_reading()),
+        }
     }
 }

@@ -1,8 +1,7 @@
 -- Outcomes that a place or a number has joined.
-use Rattle.std.proofs.Common.{◌≡◌, ℕ, ◌+◌, ◌-◌, ◌≤◌, List, length, take, drop, Ok, Err, Result, sym, refl, subst, arith}
-use Rattle.book.specs.Meaning.{Meaning}
+use Rattle.std.proofs.Common.{◌≡◌, ℕ, ◌+◌, ◌-◌, ◌≤◌, List, length, take, drop, Ok, Err, Result, sym, refl, subst, arith, Some}
+use Rattle.book.specs.Meaning.{Meaning, field}
 use Rattle.book.specs.Marks.{Fits, Passes, Passed}
-use Rattle.book.specs.declared.answer.Answer.TheVariants.{Field}
 use Rattle.model.proofs.Fielding.{cut, cut_long}
 use Rattle.refusal.specs.declared.fault.Fault.{Fault}
 use Rattle.refusal.specs.Faults.{in_field, in_record, fielded, recorded}
@@ -26,12 +25,12 @@ pub recorded_went : {T : Type 0} (r : Result T Fault) (n : ℕ) (x : T) → reco
 recorded_went (Ok y) n x e = e
 recorded_went (Err g) n x e = clash (cc)
 
--- a spelling of the width asked for, cut from the data d at i, and what passing it comes to
-module _ {V M : Type 0} (m : Meaning V) (stands : List ℕ → List ℕ → M → Type 0) (tag d : List ℕ) (i n w : ℕ) (old new : M) (r : Result (Unit {0}) Fault) (a : m.asks tag (take i d) ≡ Field n w) (h : w ≤ length d - i) (st : stands tag (take i d) old) (p : Passed m stands old new (take (i + w - i) (drop i d)) r) where
+-- a spelling s of the width asked for, cut from the data d at i, and what passing it comes to
+module _ {V M : Type 0} (m : Meaning V) (stands : List ℕ → List ℕ → M → Type 0) (tag d s : List ℕ) (i n w : ℕ) (old new : M) (r : Result (Unit {0}) Fault) (a : m.asks tag (take i d) ≡ Some (field n w)) (h : i + w ≤ length d) (is : s ≡ take (i + w - i) (drop i d)) (st : stands tag (take i d) old) (p : Passed m stands old new s r) where
   pub passing : Passes m stands tag (take i d) (take w (drop i d)) old new r
   passing =
-      let f : Fits m stands tag (take i d) (take (i + w - i) (drop i d)) = (n, rw (cut i w, cut_long d i w h) a) in
-      rw (cut i w) at (p tag (take i d) st f)
+      let f : Fits m stands tag (take i d) s = (n, rw (is, cut i w, cut_long d i w (omega arith)) a) in
+      rw (is, cut i w) at (p tag (take i d) st f)
 
   pub passed_ok : r ≡ Ok tt → Passes m stands tag (take i d) (take w (drop i d)) old new (Ok tt)
   passed_ok e = subst (Passes m stands tag (take i d) (take w (drop i d)) old new) e passing

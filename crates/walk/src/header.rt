@@ -16,71 +16,34 @@ pub struct Header<'a> {
 pub fn good_tag(tag: &[u8]) -> bool
     ensures { Tells result (GoodTag tag.now) }
 {
-    if tag.len() != 6 {
-        return false;
-    }
-    if tag[0] == b' ' {
-        return false;
-    }
-    let mut i = 0;
-    while i < 6 {
-        let b = tag[i];
-        if b < 0x20 || b > 0x7e {
-            return false;
-        }
-        if i < 5 && b == b' ' {
-            if tag[i + 1] != b' ' {
-                return false;
-            }
-        }
-        i += 1;
-    }
-    true
+    tag.len() == 6
+        && tag[0] != b' '
+        && tag.iter().all(|b| matches!(b, 0x20..=0x7e))
+        && tag
+            .windows(2)
+            .all(|pair| pair[0] != b' ' || pair[1] == b' ')
 }
 
+// Not the digits of kinds: the walk stands on no kind, only on a book.
 fn digit(b: u8) -> Option<usize>
     ensures { MatchOption result (((d : ℕ) → d < 10 → b ≢ 48 + d)) (λ d. (d < 10) × (b ≡ 48 + d)) }
 {
-    if b < b'0' || b > b'9' {
-        return None;
-    }
-    Some((b - b'0') as usize)
+    b.is_ascii_digit().then(|| usize::from(b - b'0'))
 }
 
 // The number that five digits say.
 fn number(digits: [u8; 5]) -> Option<usize>
     ensures { MatchOption result (((n : ℕ) → n ≤ 99999 → digits ≢ digits5 n)) (λ n. (n ≤ 99999) × (digits ≡ digits5 n)) }
 {
-    let [d0, d1, d2, d3, d4] = digits;
-    let Some(a) = digit(d0) else {
-        return None;
-    };
-    let Some(b) = digit(d1) else {
-        return None;
-    };
-    let Some(c) = digit(d2) else {
-        return None;
-    };
-    let Some(d) = digit(d3) else {
-        return None;
-    };
-    let Some(e) = digit(d4) else {
-        return None;
-    };
-    Some(a * 10000 + b * 1000 + c * 100 + d * 10 + e)
+    let [a, b, c, d, e] = digits;
+    Some(digit(a)? * 10000 + digit(b)? * 1000 + digit(c)? * 100 + digit(d)? * 10 + digit(e)?)
 }
 
 // The length that a header's five digits say, from 1 to 99985.
 fn said(digits: [u8; 5]) -> Option<usize>
     ensures { MatchOption result (((n : ℕ) → Says digits n → ⊥)) (λ n. Says digits n) }
 {
-    let Some(n) = number(digits) else {
-        return None;
-    };
-    if n < 1 || n > 99985 {
-        return None;
-    }
-    Some(n)
+    number(digits).filter(|n| (1..=99985).contains(n))
 }
 
 // The header that the bytes begin with, which stand at this place, and its data.
@@ -98,11 +61,8 @@ pub fn read_header<'a>(bytes: &'a [u8], at: usize) -> Result<Header<'a>, Fault>
     let Some(length) = said([*d0, *d1, *d2, *d3, *d4]) else {
         return Err(Fault::new(Cause::BadLength, at + 6));
     };
-    if rest.len() < length {
+    let Some(data) = rest.get(..length) else {
         return Err(Fault::new(Cause::CutOff, at));
-    }
-    Ok(Header {
-        tag,
-        data: &rest[0..length],
-    })
+    };
+    Ok(Header { tag, data })
 }

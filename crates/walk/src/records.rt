@@ -7,6 +7,7 @@ use book::Book;
 use refusal::fault::{Fault, at_record};
 
 // The size of the record that the bytes begin with, which is record n at this place.
+// The limit of an area stands with four functions of this crate, each time of another sum, so that no one type would hold it.
 fn first_record<'a, B: Book<'a>>(
     book: &B,
     bytes: &[u8],
@@ -27,10 +28,11 @@ pub fn count_records<'a, B: Book<'a>>(book: &B, bytes: &[u8]) -> Result<usize, F
     requires { length bytes.now ≤ 99996 }
     ensures { Listeds (B.Book.means book.now) bytes.now result }
 {
+    // Each refusal states the place and the number of the record, so both are kept.
     let mut at = 0;
     let mut count = 0;
     while at < bytes.len() {
-        at += first_record(book, &bytes[at..bytes.len()], at, count)?;
+        at += first_record(book, &bytes[at..], at, count)?;
         count += 1;
     }
     Ok(count)

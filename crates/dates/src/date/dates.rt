@@ -1,20 +1,18 @@
 ghost use Rattle.std.specs.Prelude.{◌≡◌};
-ghost use Rattle.kind.specs.Kinds.{Told, Checked, Spelled};
 ghost use Rattle.dates.specs.Days.{is_day};
 ghost use Rattle.dates.specs.declared.date.Date.{Date};
-ghost use Rattle.dates.specs.Dates.{date_of, date, date_laws};
+ghost use Rattle.dates.specs.Dates.{date_of, Parts, in_range, make, parts, date, composed};
 
 use super::Date;
-use kind::Kind;
+use kind::compound::Compound;
 use kinds::layers::{Both, Then};
 use kinds::number::Number;
-use kinds::refuse::no_reading;
-use refusal::fault::Fault;
 
+#[tactic(auto, unfolding(crate::specs::Days::is_day))]
 fn is_day(year: u64, month: u64, day: u64) -> bool
     ensures { result ≡ is_day year month day }
 {
-    year <= 9999 && 1 <= month && month <= 12 && 1 <= day && day <= 31
+    year <= 9999 && (1..=12).contains(&month) && (1..=31).contains(&day)
 }
 
 impl Date {
@@ -22,6 +20,7 @@ impl Date {
     pub fn new(year: u64, month: u64, day: u64) -> Option<Date>
         ensures { result ≡ date_of year month day }
     {
+        // no `then`: its closure would need a contract of its own, and the proof gets longer
         if is_day(year, month, day) {
             Some(Date { year, month, day })
         } else {
@@ -52,80 +51,64 @@ impl Date {
 #[derive(Clone, Copy)]
 pub struct Dates;
 
-const TWO: Number = Number {
-    width: 2,
-    low: 0,
-    high: 99,
-};
+impl<'a> Compound<'a> for Dates {
+    type Parts = Then<Number, Then<Number, Number>>;
 
-const PARTS: Then<Number, Then<Number, Number>> = Then {
-    first: Number {
-        width: 4,
-        low: 0,
-        high: 9999,
-    },
-    second: Then {
-        first: TWO,
-        second: TWO,
-    },
-};
-
-fn date_in(s: &[u8]) -> Result<Date, Fault>
-    ensures { Told (λ v. v) date s.now result }
-{
-    match PARTS.read(s) {
-        Ok(p) => match Date::new(p.front, p.back.front, p.back.back) {
-            Some(d) => Ok(d),
-            None => Err(no_reading()),
-        },
-        Err(e) => Err(e),
-    }
-}
-
-impl<'a> Kind<'a> for Dates {
     type Value = Date;
 
     ghost Val = { Date };
 
     ghost view = { λ v. v };
 
+    ghost Pieces = { Parts };
+
+    ghost seen = { λ p. p };
+
+    ghost built = { make };
+
+    ghost pieces_of = { parts };
+
     ghost wide = { λ _. 8 };
+
+    ghost in_pieces = { λ _. in_range };
 
     ghost reads = { λ _. date };
 
-    ghost laws = { λ _. date_laws };
+    ghost composed = { λ _. composed };
 
-    fn width(&self) -> usize
-        ensures { result ≡ 8 }
-    {
-        8
-    }
-
-    fn check(&self, s: &[u8]) -> Result<(), Fault>
-        ensures { Checked date s.now result }
-    {
-        match date_in(s) {
-            Ok(_) => Ok(()),
-            Err(e) => Err(e),
+    fn parts(&self) -> Then<Number, Then<Number, Number>> {
+        Then {
+            first: Number {
+                width: 4,
+                low: 0,
+                high: 9999,
+            },
+            second: Then {
+                first: Number {
+                    width: 2,
+                    low: 1,
+                    high: 12,
+                },
+                second: Number {
+                    width: 2,
+                    low: 1,
+                    high: 31,
+                },
+            },
         }
     }
 
-    fn read(&self, s: &'a [u8]) -> Result<Date, Fault>
-        ensures { Told (λ v. v) date s.now result }
-    {
-        date_in(s)
+    fn build(&self, pieces: Both<u64, Both<u64, u64>>) -> Option<Date> {
+        Date::new(pieces.front, pieces.back.front, pieces.back.back)
     }
 
-    fn spell(&self, value: &Date, out: &mut [u8]) -> Result<(), Fault>
-        ensures { Spelled date value.now out.old out.new result }
-    {
-        let pieces = Both {
+    fn split(&self, value: &Date) -> Both<u64, Both<u64, u64>> {
+        Both {
             front: value.year,
             back: Both {
                 front: value.month,
                 back: value.day,
             },
-        };
-        PARTS.spell(&pieces, out)
+        }
     }
 }

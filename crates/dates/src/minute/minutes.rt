@@ -1,23 +1,21 @@
-ghost use Rattle.std.specs.Prelude.{◌≡◌};
-ghost use Rattle.kind.specs.Kinds.{Told, Checked, Spelled};
+ghost use Rattle.std.specs.Prelude.{◌≡◌, Some, None, MatchOption};
 ghost use Rattle.dates.specs.declared.minute.Minute.{Minute};
-ghost use Rattle.dates.specs.Minutes.{minute_of, minute, minute_laws};
+ghost use Rattle.dates.specs.Minutes.{minute_of, Parts, in_range, make, parts, minute, composed};
 
 use super::Minute;
-use crate::clock::is_time;
+use crate::clock::{HOURS, is_time};
 use crate::date::Date;
 use crate::date::dates::Dates;
-use kind::Kind;
+use kind::compound::{Built, Compound};
 use kinds::layers::{Both, Then};
-use kinds::number::Number;
-use kinds::refuse::no_reading;
-use refusal::fault::Fault;
+use kinds::number::{Number, SIXTY};
 
 impl Minute {
     // The minute of a date with these numbers, if there is one.
     pub fn new(date: Date, hour: u64, minute: u64) -> Option<Minute>
         ensures { result ≡ minute_of date hour minute }
     {
+        // no `then`: its closure would need a contract of its own, and the proof gets longer
         if is_time(hour, minute, 0) {
             Some(Minute { date, hour, minute })
         } else {
@@ -48,76 +46,56 @@ impl Minute {
 #[derive(Clone, Copy)]
 pub struct Minutes;
 
-const TWO: Number = Number {
-    width: 2,
-    low: 0,
-    high: 99,
-};
+impl<'a> Compound<'a> for Minutes {
+    type Parts = Then<Built<'a, Dates>, Then<Number, Number>>;
 
-const PARTS: Then<Dates, Then<Number, Number>> = Then {
-    first: Dates,
-    second: Then {
-        first: TWO,
-        second: TWO,
-    },
-};
-
-fn minute_in(s: &[u8]) -> Result<Minute, Fault>
-    ensures { Told (λ v. v) minute s.now result }
-{
-    match PARTS.read(s) {
-        Ok(p) => match Minute::new(p.front, p.back.front, p.back.back) {
-            Some(m) => Ok(m),
-            None => Err(no_reading()),
-        },
-        Err(e) => Err(e),
-    }
-}
-
-impl<'a> Kind<'a> for Minutes {
     type Value = Minute;
 
     ghost Val = { Minute };
 
     ghost view = { λ v. v };
 
+    ghost Pieces = { Parts };
+
+    ghost seen = { λ p. p };
+
+    ghost built = { make };
+
+    ghost pieces_of = { parts };
+
     ghost wide = { λ _. 12 };
+
+    ghost in_pieces = { λ _. in_range };
 
     ghost reads = { λ _. minute };
 
-    ghost laws = { λ _. minute_laws };
+    ghost composed = { λ _. composed };
 
-    fn width(&self) -> usize
-        ensures { result ≡ 12 }
-    {
-        12
-    }
-
-    fn check(&self, s: &[u8]) -> Result<(), Fault>
-        ensures { Checked minute s.now result }
-    {
-        match minute_in(s) {
-            Ok(_) => Ok(()),
-            Err(e) => Err(e),
+    fn parts(&self) -> Then<Built<'a, Dates>, Then<Number, Number>> {
+        Then {
+            first: Built::of(Dates),
+            second: Then {
+                first: HOURS,
+                second: SIXTY,
+            },
         }
     }
 
-    fn read(&self, s: &'a [u8]) -> Result<Minute, Fault>
-        ensures { Told (λ v. v) minute s.now result }
+    fn build(&self, pieces: Both<Date, Both<u64, u64>>) -> Option<Minute>
+        ensures { MatchOption result (make pieces ≡ None) (λ v. make pieces ≡ Some v) }
     {
-        minute_in(s)
+        Minute::new(pieces.front, pieces.back.front, pieces.back.back)
     }
 
-    fn spell(&self, value: &Minute, out: &mut [u8]) -> Result<(), Fault>
-        ensures { Spelled minute value.now out.old out.new result }
+    fn split(&self, value: &Minute) -> Both<Date, Both<u64, u64>>
+        ensures { result ≡ parts value.now }
     {
-        let pieces = Both {
+        Both {
             front: value.date,
             back: Both {
                 front: value.hour,
                 back: value.minute,
             },
-        };
-        PARTS.spell(&pieces, out)
+        }
     }
 }

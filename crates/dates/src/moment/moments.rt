@@ -1,23 +1,21 @@
-ghost use Rattle.std.specs.Prelude.{◌≡◌};
-ghost use Rattle.kind.specs.Kinds.{Told, Checked, Spelled};
+ghost use Rattle.std.specs.Prelude.{◌≡◌, Some, None, MatchOption};
 ghost use Rattle.dates.specs.declared.moment.Moment.{Moment};
-ghost use Rattle.dates.specs.Moments.{moment_of, moment, moment_laws};
+ghost use Rattle.dates.specs.Moments.{moment_of, Parts, in_range, make, parts, moment, composed};
 
 use super::Moment;
-use crate::clock::is_time;
+use crate::clock::{HOURS, is_time};
 use crate::date::Date;
 use crate::date::dates::Dates;
-use kind::Kind;
+use kind::compound::{Built, Compound};
 use kinds::layers::{Both, Then};
-use kinds::number::Number;
-use kinds::refuse::no_reading;
-use refusal::fault::Fault;
+use kinds::number::{Number, SIXTY};
 
 impl Moment {
     // The moment of a date with these numbers, if there is one.
     pub fn new(date: Date, hour: u64, minute: u64, second: u64) -> Option<Moment>
         ensures { result ≡ moment_of date hour minute second }
     {
+        // no `then`: its closure would need a contract of its own, and the proof gets longer
         if is_time(hour, minute, second) {
             Some(Moment {
                 date,
@@ -59,73 +57,55 @@ impl Moment {
 #[derive(Clone, Copy)]
 pub struct Moments;
 
-const TWO: Number = Number {
-    width: 2,
-    low: 0,
-    high: 99,
-};
+impl<'a> Compound<'a> for Moments {
+    type Parts = Then<Built<'a, Dates>, Then<Number, Then<Number, Number>>>;
 
-const PARTS: Then<Dates, Then<Number, Then<Number, Number>>> = Then {
-    first: Dates,
-    second: Then {
-        first: TWO,
-        second: Then {
-            first: TWO,
-            second: TWO,
-        },
-    },
-};
-
-fn moment_in(s: &[u8]) -> Result<Moment, Fault>
-    ensures { Told (λ v. v) moment s.now result }
-{
-    match PARTS.read(s) {
-        Ok(p) => match Moment::new(p.front, p.back.front, p.back.back.front, p.back.back.back) {
-            Some(m) => Ok(m),
-            None => Err(no_reading()),
-        },
-        Err(e) => Err(e),
-    }
-}
-
-impl<'a> Kind<'a> for Moments {
     type Value = Moment;
 
     ghost Val = { Moment };
 
     ghost view = { λ v. v };
 
+    ghost Pieces = { Parts };
+
+    ghost seen = { λ p. p };
+
+    ghost built = { make };
+
+    ghost pieces_of = { parts };
+
     ghost wide = { λ _. 14 };
+
+    ghost in_pieces = { λ _. in_range };
 
     ghost reads = { λ _. moment };
 
-    ghost laws = { λ _. moment_laws };
+    ghost composed = { λ _. composed };
 
-    fn width(&self) -> usize
-        ensures { result ≡ 14 }
-    {
-        14
-    }
-
-    fn check(&self, s: &[u8]) -> Result<(), Fault>
-        ensures { Checked moment s.now result }
-    {
-        match moment_in(s) {
-            Ok(_) => Ok(()),
-            Err(e) => Err(e),
+    fn parts(&self) -> Then<Built<'a, Dates>, Then<Number, Then<Number, Number>>> {
+        Then {
+            first: Built::of(Dates),
+            second: Then {
+                first: HOURS,
+                second: Then {
+                    first: SIXTY,
+                    second: SIXTY,
+                },
+            },
         }
     }
 
-    fn read(&self, s: &'a [u8]) -> Result<Moment, Fault>
-        ensures { Told (λ v. v) moment s.now result }
+    fn build(&self, pieces: Both<Date, Both<u64, Both<u64, u64>>>) -> Option<Moment>
+        ensures { MatchOption result (make pieces ≡ None) (λ v. make pieces ≡ Some v) }
     {
-        moment_in(s)
+        let time = pieces.back;
+        Moment::new(pieces.front, time.front, time.back.front, time.back.back)
     }
 
-    fn spell(&self, value: &Moment, out: &mut [u8]) -> Result<(), Fault>
-        ensures { Spelled moment value.now out.old out.new result }
+    fn split(&self, value: &Moment) -> Both<Date, Both<u64, Both<u64, u64>>>
+        ensures { result ≡ parts value.now }
     {
-        let pieces = Both {
+        Both {
             front: value.date,
             back: Both {
                 front: value.hour,
@@ -134,7 +114,6 @@ impl<'a> Kind<'a> for Moments {
                     back: value.second,
                 },
             },
-        };
-        PARTS.spell(&pieces, out)
+        }
     }
 }

@@ -1,4 +1,4 @@
-use Rattle.std.proofs.Common.{string_bytes, ◌∙◌, arith}
+use Rattle.std.proofs.Common.{string_bytes, ◌∙◌}
 use Rattle.std.proofs.lemmas.Result.{err_from_is_err_and}
 use Rattle.report.specs.Listings.Listing.{refused}
 use Rattle.report.proofs.Ending.{too_long, halted, ready, whole}
@@ -30,7 +30,7 @@ field_text-requires g c =
     let o = open_ok _ _ c.in_ok-area.area c.in_ok-area.ensures in
     let e = c.as_slice.ensures.value ∙ c.in_ok-fields.ensures o.1.0 o.1.1 o.1.2 in
     let r = ready (g.B.Book.laws _) c.args.bytes.now c.in_ok-area.area c.as_slice.result.now c.if-bytes-gt-LIMIT.false o.0 o.1.2 e in
-    record { few = omega (arith, c.if-bytes-gt-LIMIT.false); placed = r.placed }
+    record { placed = r.placed }
 
 pub returns-in_err-text : goal.returns-in_err-text
 returns-in_err-text g c =

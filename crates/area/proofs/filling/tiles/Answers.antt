@@ -1,5 +1,5 @@
 use Rattle.std.proofs.Common.{arith}
-use Rattle.area.proofs.Tiled.{tiling_low, going_more, going_place, going_width, going_all}
+use Rattle.area.proofs.Tiled.{tiling_low, going_more, going_place, going_width, going_all, tells_equal}
 use Rattle.area.proofs.filling.tiles.Goals as goal
 
 pub returns-then-end-start : goal.returns-then-end-start
@@ -14,8 +14,5 @@ returns-then-end-at c = going_width c.loop-i.invariant c.loop-i-test.true c.if-e
 pub loop-i-preserved : goal.loop-i-preserved
 loop-i-preserved c = going_more c.loop-i.invariant c.loop-i-test.true c.if-e-at.false c.if-end-at.false
 
-pub returns-then-at-end : goal.returns-then-at-end
-returns-then-at-end c = λ t. c.if-at-end.true ((going_all c.loop-i.invariant c.loop-i-test.false).1 t)
-
 pub returns : goal.returns
-returns c = (going_all c.loop-i.invariant c.loop-i-test.false).0 c.if-at-end.false
+returns c = tells_equal (going_all c.loop-i.invariant c.loop-i-test.false)

@@ -1,12 +1,15 @@
+use Rattle.std.proofs.Common.{false, subst}
+use Rattle.model.specs.Looks.{Fieldeds}
 use Rattle.model.proofs.Lists.{never}
-use Rattle.area.proofs.Parting.{count_known, count_unknown, count_never}
+use Rattle.area.proofs.Parting.{count_known, count_never}
 use Rattle.area.proofs.finding.count_fields.Goals as goal
 
-pub returns-in_default : goal.returns-in_default
-returns-in_default g c = λ ss fs w. never (count_never (g.B.Book.laws c.args.book.now) (g.B.Book.stands c.args.book.now) w c.in_default.field-0 c.in_default.ensures)
+pub returns-in-Ok-Some : goal.returns-in-Ok-Some
+returns-in-Ok-Some g c = λ ss fs w.
+    let m = g.B.Book.means c.args.book.now in
+    let st = g.B.Book.stands c.args.book.now in
+    let x = subst (Fieldeds m st false 0 c.args.head.now.tag 0 c.args.head.now.data.now) c.in-Ok-Some.is c.read_fields.ensures in
+    count_known (g.B.Book.laws c.args.book.now) st w c.in-Ok-Some.field-0 c.in-Ok-Some.read c.in-Ok-Some.field-0-is x
 
-pub returns-in_default-found : goal.returns-in_default-found
-returns-in_default-found g c = λ ss fs w. count_unknown (g.B.Book.laws c.args.book.now) (g.B.Book.stands c.args.book.now) w c.in-Ok.found c.in_default-found.is c.in-Ok.ensures
-
-pub returns : goal.returns
-returns g c = λ ss fs w. count_known (g.B.Book.laws c.args.book.now) (g.B.Book.stands c.args.book.now) w c.in-Ok.found c.in-Some.read c.in-Some.is c.in-Ok.ensures
+pub returns-in-Err : goal.returns-in-Err
+returns-in-Err g c = λ ss fs w. never (count_never (g.B.Book.laws c.args.book.now) (g.B.Book.stands c.args.book.now) w c.in-Err.field-0 c.in-Err.ensures)

@@ -1,10 +1,8 @@
-use Rattle.std.proofs.Common.{◌≡◌, ℕ, ◌-◌, ◌≤◌, List, length, take}
-use Rattle.model.specs.Records.{TableField, joined}
+use Rattle.std.proofs.Common.{◌≡◌, ℕ, ◌≤◌, List}
+use Rattle.model.specs.Records.{TableField}
 use Rattle.area.specs.Finding.{Holds}
+use Rattle.area.specs.Parts.{Ahead}
 use Rattle.area.proofs.holding.holding_field.Given as goal
 
-abbrev pub invariant-loop-width : goal.invariant-loop-width
-invariant-loop-width g l = (l.at ≤ length l.bytes) × (l.i ≤ l.at) × (l.at ≤ l.byte) × g.B.Book.stands l.book l.tag (take l.at l.bytes) l.mark × ((ss : List (List ℕ)) (fs : List (TableField g.B.Book.Val)) → Holds (g.B.Book.means l.book) l.tag l.bytes ss fs → (l.i ≤ length ss) × (l.at ≡ length (joined (take l.i ss))))
-
-abbrev pub decreases-loop-width : goal.decreases-loop-width
-decreases-loop-width g l = length l.bytes - l.at
+abbrev pub invariant-loop-part : goal.invariant-loop-part
+invariant-loop-part g l = (l.part-iterator.head ≡ l.head) × (l.part-iterator.book.now ≡ l.book) × (l.part-iterator.at ≤ l.byte) × ((ss : List (List ℕ)) (fs : List (TableField g.B.Book.Val)) → Holds (g.B.Book.means l.book) l.head.tag l.head.data.now ss fs → Ahead ss l.part-iterator.number l.part-iterator.at)

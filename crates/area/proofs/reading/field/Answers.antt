@@ -32,11 +32,11 @@ returns g c =
     let a = at_record c.args.n x.there l.stood.whole in
     let p = c.in-Some-find_field.ensures.finds _ _ (moved x.tag_is x.data_is a.holds) in
     let q = c.in-Some-find_field.part in
-    let h = c.in-Some.head in
-    let b = field_bytes l c.args.n c.args.k c.in-Some.place h q x a p in
+    let h = c.in-Some.spot.head in
+    let b = field_bytes l c.args.n c.args.k c.in-Some.spot.place h q x a p in
     answered l.ledger l.table l.stood (field_there l.ledger c.args.n c.args.k x.there p.there) (record {
-      place = field_place l c.args.n c.args.k c.in-Some.place h q x a p;
-      name = field_name l c.args.n c.args.k c.in-Some.place h q x a p;
+      place = field_place l c.args.n c.args.k c.in-Some.spot.place h q x a p;
+      name = field_name l c.args.n c.args.k c.in-Some.spot.place h q x a p;
       bytes = b;
-      there = field_in l c.args.n c.args.k c.in-Some.place h q x a p (sound_at l.ledger.records c.args.n x.there s).0.six _ b;
+      there = field_in l c.args.n c.args.k c.in-Some.spot.place h q x a p (sound_at l.ledger.records c.args.n x.there s).0.six _ b;
     })

@@ -1,7 +1,6 @@
-use Rattle.std.proofs.Common.{◌≤◌, length, ap, arith, rules}
+use Rattle.std.proofs.Common.{length, ap}
 use Rattle.std.proofs.lemmas.Result.{err_from_is_err_and}
 use Rattle.area.specs.Reading.Answers.{astray, refused, answered}
-use Rattle.area.proofs.Located.{sound_at}
 use Rattle.area.proofs.Telling.{all_sound, at_record, moved, record_missing, record_there}
 use Rattle.area.proofs.reading.record.Goals as goal
 
@@ -15,17 +14,6 @@ returns-in_default g c =
     let l = c.in_ok-bytes.ensures in
     let h = c.in_default.ensures.finds l.ledger.records (all_sound (g.B.Book.laws c.args.book.now) l.stood.whole) l.is in
     rw c.new.ensures (refused l.ledger l.table l.stood (record_missing l.ledger c.args.n h))
-
-pub count_fields-fields-requires : goal.count_fields-fields-requires
-count_fields-fields-requires g c =
-    let l = c.in_ok-bytes.ensures in
-    let s = all_sound (g.B.Book.laws c.args.book.now) l.stood.whole in
-    let x = c.in-Some.ensures.finds l.ledger.records s l.is in
-    let y = sound_at l.ledger.records c.args.n x.there s in
-    let z = ap length x.data_is in
-    let w = y.2 in
-    let f : length c.in-Some.head.data.now ≤ 99996 = omega arith in
-    search rules
 
 pub returns : goal.returns
 returns g c =

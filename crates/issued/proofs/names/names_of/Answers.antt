@@ -1,17 +1,12 @@
-use Rattle.std.proofs.Common.{sym, ap}
+use Rattle.std.proofs.Common.{sym, refl, ap, ◌∙◌}
 use Rattle.issued.specs.Published.{aimidb, stdidc, acftb}
 use Rattle.issued.specs.Widths.{names}
-use Rattle.issued.proofs.Places.{are_aimidb, are_stdidc, are_acftb}
+use Rattle.issued.proofs.Places.{known}
+use Rattle.issued.proofs.Tables.{texts_of_tag}
 use Rattle.issued.proofs.names.names_of.Goals as goal
 
-pub returns-then-same : goal.returns-then-same
+pub returns : goal.returns
 unfolding aimidb stdidc acftb
-returns-then-same c = sym (ap names (are_aimidb c.args.tag.now (sym c.if-same.ensures)))
-
-pub returns-then-same-2 : goal.returns-then-same-2
-unfolding aimidb stdidc acftb
-returns-then-same-2 c = sym (ap names (are_stdidc c.args.tag.now (sym c.if-same.ensures) (sym c.if-same-2.ensures)))
-
-pub returns-then-same-3 : goal.returns-then-same-3
-unfolding aimidb stdidc acftb
-returns-then-same-3 c = sym (ap names (are_acftb c.args.tag.now (sym c.if-same.ensures) (sym c.if-same-2.ensures) (sym c.if-same-3.ensures)))
+returns c =
+    let t = c.in_ok-known.known in
+    rw (c.first.ensures, c.end.ensures) (texts_of_tag t _ refl ∙ sym (ap names (known c.args.tag.now t (sym c.in_ok-known.ensures)).1))

@@ -1,4 +1,4 @@
-use Rattle.std.proofs.Common.{◌≤◌, length, sym, subst, arith, rules}
+use Rattle.std.proofs.Common.{◌-◌, ◌<◌, ◌≤◌, length, take, drop, inl, inr, sym, subst, arith, rules}
 use Rattle.model.specs.Records.{GoodTag}
 use Rattle.model.specs.Walks.{Says}
 use Rattle.walk.specs.Heads.{Headless}
@@ -21,15 +21,17 @@ returns-in_default-said c =
     let n = named c.args.bytes.now l in
     subst (Headless _ _) (sym c.new-in_default-said.ensures) (digits l (subst GoodTag n.tag c.if-not-good_tag.ensures) (λ k s. c.in_default-said.ensures k (subst (λ d. Says d k) (sym n.digits) s)))
 
-pub returns-then-rest-length : goal.returns-then-rest-length
-returns-then-rest-length c =
+pub returns-in_default-get : goal.returns-in_default-get
+returns-in_default-get c =
     let l : 11 ≤ length c.args.bytes.now = search rules in
     let n = named c.args.bytes.now l in
-    subst (Headless _ _) (sym c.new-then-rest-length.ensures) (end l (subst GoodTag n.tag c.if-not-good_tag.ensures) c.in-Some.length (subst (λ d. Says d c.in-Some.length) n.digits c.in-Some.ensures) (omega arith))
+    let short = elim c.in_default-get.ensures.lookup.0 as (λ _. length (take (length c.args.bytes.now - 11) (drop 11 c.args.bytes.now)) < c.in-Some.length) [ inl z ↦ omega arith | inr z ↦ z ] in
+    subst (Headless _ _) (sym c.new-in_default-get.ensures) (end l (subst GoodTag n.tag c.if-not-good_tag.ensures) c.in-Some.length (subst (λ d. Says d c.in-Some.length) n.digits c.in-Some.ensures) (omega arith))
 
 pub returns : goal.returns
 returns c =
     let l : 11 ≤ length c.args.bytes.now = search rules in
     let n = named c.args.bytes.now l in
-    let x = held c.args.bytes.now c.in-Some.length c.if-rest-length.false (subst (λ d. Says d c.in-Some.length) n.digits c.in-Some.ensures) in
-    record { long = l; good = subst GoodTag n.tag c.if-not-good_tag.ensures; tag = n.tag; says = x.says; data_is = x.is; there = x.there }
+    let part = c.in-Some-get.ensures.lookup.0 in
+    let x = held c.args.bytes.now c.in-Some.length part.1 (subst (λ d. Says d c.in-Some.length) n.digits c.in-Some.ensures) in
+    rw part.2 (record { long = l; good = subst GoodTag n.tag c.if-not-good_tag.ensures; tag = n.tag; says = x.says; data_is = x.is; there = x.there })

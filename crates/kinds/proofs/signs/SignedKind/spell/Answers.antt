@@ -7,10 +7,10 @@ pub returns-then-v-lt0 : goal.returns-then-v-lt0
 returns-then-v-lt0 c =
     let k = c.args.self.now in
     let v = c.args.value.now in
-    let n = c.size_of-size.result in
+    let n = c.unsigned_abs-size.result in
     let f : SFits w64 v = search rules in
     let t = to_z-of_z w64 v f in
-    let z = rw t at c.size_of-size.ensures in
+    let z = rw t at c.unsigned_abs-size.ensures.value in
     let p = below_zero v (rw t at c.if-v-lt0.true) in
     minus_spelled k.digits k.below k.above v n c.args.out.now c.put_signed.new.out (rw z p.1) (p.0 ∙ ap (λ m. neg_ℤ (pos m)) (sym z)) c.put_signed.result c.put_signed.ensures
 
@@ -18,8 +18,8 @@ pub returns-else-v-lt0 : goal.returns-else-v-lt0
 returns-else-v-lt0 c =
     let k = c.args.self.now in
     let v = c.args.value.now in
-    let n = c.size_of-size.result in
+    let n = c.unsigned_abs-size.result in
     let f : SFits w64 v = search rules in
     let t = to_z-of_z w64 v f in
-    let z = rw t at c.size_of-size.ensures in
+    let z = rw t at c.unsigned_abs-size.ensures.value in
     plus_spelled k.digits k.below k.above v n c.args.out.now c.put_signed-else-v-lt0.new.out (from_zero v (rw t at c.if-v-lt0.false) ∙ ap pos (sym z)) c.put_signed-else-v-lt0.result c.put_signed-else-v-lt0.ensures

@@ -1,7 +1,0 @@
-use Rattle.std.proofs.Common.{refl, ◌∙◌}
-use Rattle.codes.specs.Projects.{names}
-use Rattle.kinds.proofs.Named.{names_spelled, seen}
-use Rattle.codes.proofs.projects.ProjectsKind.spell.Goals as goal
-
-pub returns : goal.returns
-returns c = names_spelled names c.args.value.now _ c.args.out.now _ c.spell.result (seen (λ _. refl) (λ _. refl) _ ∙ c.split.ensures) c.spell.ensures

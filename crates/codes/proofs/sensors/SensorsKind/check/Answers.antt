@@ -1,6 +1,0 @@
-use Rattle.codes.specs.Sensors.{names}
-use Rattle.kinds.proofs.Named.{names_checked}
-use Rattle.codes.proofs.sensors.SensorsKind.check.Goals as goal
-
-pub returns : goal.returns
-returns c = names_checked names c.args.s.now c.check.result c.check.ensures

@@ -1,7 +1,0 @@
-use Rattle.std.proofs.Common.{refl}
-use Rattle.dates.specs.Minutes.{builds}
-use Rattle.kinds.proofs.Named.{builds_spelled}
-use Rattle.dates.proofs.minute.minutes.MinutesKind.spell.Goals as goal
-
-pub returns : goal.returns
-returns c = builds_spelled builds c.args.value.now _ c.args.out.now _ c.spell.result refl c.spell.ensures

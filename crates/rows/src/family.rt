@@ -1,8 +1,0 @@
-// A group of kinds, by what their values are.
-#[derive(Clone, Copy)]
-pub enum Family {
-    Figure,
-    Writing,
-    Label,
-    Spot,
-}
