@@ -1,6 +1,9 @@
 -- From a look that found a ledger to what the reading calls say of it.
 use Rattle.std.proofs.Common.{◌≡◌, ℕ, zero, suc, ◌+◌, ◌-◌, ◌<◌, ◌≤◌, List, [], ◌++◌, map, length, get_or, take, drop, Some, None, sym, refl, ap, ◌∙◌, subst, ap₂, inl, inr, append_assoc, arith, length-append, take-append-drop, take_at, drop_at}
+use Rattle.std.proofs.Common.{Err, Option, Result}
+use Rattle.std.specs.Option.{ok_or}
 use Rattle.book.specs.Meaning.{Meaning, Laws}
+use Rattle.refusal.specs.declared.fault.Fault.{Fault}
 use Rattle.refusal.specs.declared.fault.Cause.TheVariants.{NoSuch}
 use Rattle.refusal.specs.Faults.{fault}
 use Rattle.model.specs.declared.area.Area.{Area}
@@ -114,3 +117,7 @@ inside l n h six =
     let c = length-append r (written (drop (n + 1) l)) in
     let d = record_length (get_or l n nothing).tag (joined (get_or l n nothing).spellings) six in
     omega arith
+
+-- the refusal of an option that has nothing
+pub refused_with : {T : Type 0} (x : Option T) (e f : Fault) → x ≡ None → Err e ≡ ok_or x f → e ≡ f
+refused_with {T} x e f z v = let h : ◌≡◌ {A = Result T Fault} (Err e) (Err f) = v ∙ ap (λ y. ok_or y f) z in cc

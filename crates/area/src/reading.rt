@@ -15,7 +15,6 @@ use refusal::fault::{Cause, Fault};
 use walk::look::look;
 
 // The calls take the buffer beside the area's value, since the buffer is the caller's and is lent to each of them.
-// Where there is nothing to find they use let .. else: with ok_or the proof no longer sees what the search promises.
 
 // Checks the area that takes up the first len bytes of the buffer.
 pub fn open<'a, B: Book<'a>>(book: &B, buf: &[u8], len: usize) -> Result<Area, Fault>
@@ -60,9 +59,7 @@ pub fn record<'a, B: Book<'a>>(
     ensures { Answers (B.Book.means book.now) buf.now area (record_rules n) (RecordTold n) result }
 {
     let bytes = finished(book, buf, area)?;
-    let Some(spot) = find_record(bytes, n) else {
-        return Err(Fault::new(Cause::NoSuch, 0));
-    };
+    let spot = find_record(bytes, n).ok_or(Fault::new(Cause::NoSuch, 0))?;
     let head = spot.head;
     let fields = count_fields(book, &head);
     Ok(RecordInfo {
@@ -84,13 +81,9 @@ pub fn field<'a, 'b, B: Book<'a>>(
     ensures { Answers (B.Book.means book.now) buf.now area (field_rules n k) (FieldTold buf.now n k) result }
 {
     let bytes = finished(book, buf, area)?;
-    let Some(spot) = find_record(bytes, n) else {
-        return Err(Fault::new(Cause::NoSuch, 0));
-    };
+    let spot = find_record(bytes, n).ok_or(Fault::new(Cause::NoSuch, 0))?;
     let head = spot.head;
-    let Some(part) = find_field(book, &head, k) else {
-        return Err(Fault::new(Cause::NoSuch, 0));
-    };
+    let part = find_field(book, &head, k).ok_or(Fault::new(Cause::NoSuch, 0))?;
     let start = part.start;
     let width = part.width;
     Ok(FieldInfo {
@@ -127,16 +120,12 @@ pub fn which<'a, B: Book<'a>>(
     ensures { Answers (B.Book.means book.now) buf.now area (which_rules byte) (WhichTold byte) result }
 {
     let bytes = finished(book, buf, area)?;
-    let Some(spot) = holding_record(bytes, byte) else {
-        return Err(Fault::new(Cause::NoSuch, 0));
-    };
+    let spot = holding_record(bytes, byte).ok_or(Fault::new(Cause::NoSuch, 0))?;
     let n = spot.number;
     let into = byte - spot.place;
     if into < 11 {
         return Ok((n, 0, true));
     }
-    let Some(k) = holding_field(book, &spot.head, into - 11) else {
-        return Err(Fault::new(Cause::NoSuch, 0));
-    };
+    let k = holding_field(book, &spot.head, into - 11).ok_or(Fault::new(Cause::NoSuch, 0))?;
     Ok((n, k, false))
 }

@@ -76,13 +76,8 @@ impl<'a, L: Listed> Kind<'a> for Codes<L> {
         if out.len() != letters.len() {
             return Err(no_reading());
         }
-        // A match: tried with ok_or and `?`, where the proof no longer sees what the search found.
-        match find(&self.list, letters) {
-            Some(_) => {
-                out.copy_from_slice(letters);
-                Ok(())
-            }
-            None => Err(no_reading()),
-        }
+        self.check(letters)?;
+        out.copy_from_slice(letters);
+        Ok(())
     }
 }

@@ -55,10 +55,7 @@ impl<'a> Kind<'a> for Slot {
         if self.cell.row.blank {
             return Blank { below: self.cell }.spell(value, out);
         }
-        // A match: tried with ok_or and `?`, where the proof no longer sees what the value was.
-        match value {
-            Some(v) => self.cell.spell(v, out),
-            None => Err(no_reading()),
-        }
+        let given = value.as_ref().ok_or(no_reading())?;
+        self.cell.spell(given, out)
     }
 }
