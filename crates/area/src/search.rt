@@ -16,6 +16,27 @@ pub trait Spanned {
         ensures { result ≡ wide self.now };
 }
 
+// A run of bytes, for parts that are no more than that.
+#[derive(Clone, Copy, PartialEq, Eq, Debug)]
+pub struct Span {
+    pub start: usize,
+    pub width: usize,
+}
+
+impl Spanned for Span {
+    ghost from = { λ s. s.start };
+
+    ghost wide = { λ s. s.width };
+
+    fn start(&self) -> usize {
+        self.start
+    }
+
+    fn width(&self) -> usize {
+        self.width
+    }
+}
+
 impl Spanned for Entry {
     ghost from = { λ e. e.place };
 

@@ -1,1 +1,2 @@
+mod Stripped
 pub mod Tagging

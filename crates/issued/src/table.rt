@@ -108,7 +108,9 @@ impl RowNumber {
     pub fn row(self) -> Row
         ensures { result ≡ row_at self.i }
     {
-        TABLE[self.i]
+        // By a borrow: an index into the constant itself copies the whole table first.
+        let table: &'static [Row] = &TABLE;
+        table[self.i]
     }
 
     // The number of its name in its tag.

@@ -1,3 +1,5 @@
+use crate::sides::Side;
+use std::fmt;
 use std::marker::PhantomData;
 
 // A side of the equator.
@@ -27,11 +29,22 @@ pub type Poleward = Sides<NorthSouth>;
 pub type Sideward = Sides<EastWest>;
 
 // Degrees and minutes to one side of a line.
-#[derive(Clone, Copy, PartialEq, Eq, Debug)]
+#[derive(Clone, Copy, PartialEq, Eq)]
 pub struct Angle<S> {
     pub degrees: u64,
     pub minutes: u64,
     pub side: S,
+}
+
+// Printed under the name that it has for its side.
+impl<S: Side + fmt::Debug> fmt::Debug for Angle<S> {
+    fn fmt<W: fmt::Write>(&self, f: &mut fmt::Formatter<W>) -> fmt::Result {
+        f.debug_struct(S::NAME)
+            .field("degrees", &self.degrees)
+            .field("minutes", &self.minutes)
+            .field("side", &self.side)
+            .finish()
+    }
 }
 
 pub type Latitude = Angle<NorthSouth>;

@@ -14,6 +14,9 @@ pub trait Side: Copy + 'static {
     // the most of them
     const HIGH: u64;
 
+    // what an angle to such a side is called where it is printed
+    const NAME: &'static str = "Angle";
+
     ghost WIDTH: { ℕ };
 
     ghost HIGH: { ℕ };
@@ -40,6 +43,8 @@ impl Side for NorthSouth {
     const WIDTH: usize = 2;
 
     const HIGH: u64 = 89;
+
+    const NAME: &'static str = "Latitude";
 
     ghost WIDTH = { 2 };
 
@@ -71,6 +76,8 @@ impl Side for EastWest {
     const WIDTH: usize = 3;
 
     const HIGH: u64 = 179;
+
+    const NAME: &'static str = "Longitude";
 
     ghost WIDTH = { 3 };
 

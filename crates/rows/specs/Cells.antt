@@ -21,9 +21,7 @@ use Rattle.fields.specs.Focals as focals
 use Rattle.fields.specs.Names.{named, named_laws}
 use Rattle.fields.specs.Segments as segments
 use Rattle.fields.specs.Spacings as spacings
-use Rattle.dates.specs.CalendarDates.{calendar_date, calendar_date_laws}
-use Rattle.dates.specs.Minutes.{minute, minute_laws}
-use Rattle.dates.specs.Moments.{moment, moment_laws}
+use Rattle.fields.specs.Stamps as stamps
 use Rattle.fields.specs.Tagged.{tagged, tagged_laws, one_unit}
 use Rattle.rows.specs.declared.code.Code.{Code}
 use Rattle.rows.specs.declared.code.Code.TheVariants as code
@@ -67,9 +65,9 @@ writing_plain writing_code.Spaces w low high sar = tagged (λ _. writing spaces)
 writing_plain writing_code.Underscore w low high sar = tagged (λ _. writing underscore) (texts.word (codes "_"))
 
 abbrev pub label_plain : LabelCode → ℕ → ℕ → ℕ → Bool → List ℕ → Option Reading
-label_plain label_code.Moment w low high sar = tagged (λ v. label (labels.Moment v)) moment
-label_plain label_code.Minute w low high sar = tagged (λ v. label (labels.Minute v)) minute
-label_plain label_code.Date w low high sar = tagged (λ v. label (labels.Date v)) calendar_date
+label_plain label_code.Moment w low high sar = tagged (λ v. label (labels.Moment v)) stamps.stamped_moment
+label_plain label_code.Minute w low high sar = tagged (λ v. label (labels.Minute v)) stamps.stamped_minute
+label_plain label_code.Date w low high sar = tagged (λ v. label (labels.Date v)) stamps.stamped_date
 label_plain label_code.MissionNumber w low high sar = tagged (λ v. label (labels.Mission v)) missions.mission
 label_plain label_code.Turn w low high sar = tagged (λ v. label (labels.Turn v)) (turns.turn low high)
 label_plain label_code.Replay w low high sar = tagged (λ v. label (labels.Replay v)) replays.replay
@@ -113,9 +111,9 @@ writing_laws writing_code.Spaces w low high sar e = let p = within w 1 999 e in 
 writing_laws writing_code.Underscore w low high sar e = fixed w 1 e (tagged_laws (λ _. writing underscore) one_unit (texts.word_laws (codes "_") (omega arith) (omega arith)))
 
 pub label_laws : (k : LabelCode) (w low high : ℕ) (sar : Bool) → label_fair k w ≡ true → Laws w (label_plain k w low high sar)
-label_laws label_code.Moment w low high sar e = fixed w 14 e (tagged_laws (λ v. label (labels.Moment v)) (λ a b e. cc) moment_laws)
-label_laws label_code.Minute w low high sar e = fixed w 12 e (tagged_laws (λ v. label (labels.Minute v)) (λ a b e. cc) minute_laws)
-label_laws label_code.Date w low high sar e = fixed w 8 e (tagged_laws (λ v. label (labels.Date v)) (λ a b e. cc) calendar_date_laws)
+label_laws label_code.Moment w low high sar e = fixed w 14 e (tagged_laws (λ v. label (labels.Moment v)) (λ a b e. cc) stamps.stamped_moment_laws)
+label_laws label_code.Minute w low high sar e = fixed w 12 e (tagged_laws (λ v. label (labels.Minute v)) (λ a b e. cc) stamps.stamped_minute_laws)
+label_laws label_code.Date w low high sar e = fixed w 8 e (tagged_laws (λ v. label (labels.Date v)) (λ a b e. cc) stamps.stamped_date_laws)
 label_laws label_code.MissionNumber w low high sar e = fixed w 4 e (tagged_laws (λ v. label (labels.Mission v)) (λ a b e. cc) missions.mission_laws)
 label_laws label_code.Turn w low high sar e = fixed w 2 e (tagged_laws (λ v. label (labels.Turn v)) (λ a b e. cc) (turns.turn_laws low high))
 label_laws label_code.Replay w low high sar e = fixed w 3 e (tagged_laws (λ v. label (labels.Replay v)) (λ a b e. cc) replays.replay_laws)

@@ -13,9 +13,7 @@ use codes::replay::Replays;
 use codes::sensor::Sensors;
 use codes::turn::Turns;
 use codes::version::Versions;
-use dates::calendar::CalendarDates;
-use dates::minute::minutes::Minutes;
-use dates::moment::moments::Moments;
+use fields::stamp::{DateStamps, MinuteStamps, MomentStamps};
 use kind::Kind;
 use kind::compound::Built;
 use kinds::refuse::no_reading;
@@ -51,9 +49,9 @@ impl<'a> Kind<'a> for Sort<LabelCode> {
 
     fn check(&self, s: &[u8]) -> Result<(), Fault> {
         match self.code {
-            LabelCode::Moment => Built::<'a, _>::of(Moments).check(s),
-            LabelCode::Minute => Built::<'a, _>::of(Minutes).check(s),
-            LabelCode::Date => Built::<'a, _>::of(CalendarDates).check(s),
+            LabelCode::Moment => MomentStamps.check(s),
+            LabelCode::Minute => MinuteStamps.check(s),
+            LabelCode::Date => DateStamps.check(s),
             LabelCode::MissionNumber => Built::<'a, _>::of(Missions).check(s),
             LabelCode::Turn => kind_of!(Turn, self).check(s),
             LabelCode::Replay => Built::<'a, _>::of(Replays).check(s),
@@ -64,9 +62,9 @@ impl<'a> Kind<'a> for Sort<LabelCode> {
 
     fn read(&self, s: &'a [u8]) -> Result<Label, Fault> {
         match self.code {
-            LabelCode::Moment => Built::<'a, _>::of(Moments).read(s).map(Label::Moment),
-            LabelCode::Minute => Built::<'a, _>::of(Minutes).read(s).map(Label::Minute),
-            LabelCode::Date => Built::<'a, _>::of(CalendarDates).read(s).map(Label::Date),
+            LabelCode::Moment => MomentStamps.read(s).map(Label::Moment),
+            LabelCode::Minute => MinuteStamps.read(s).map(Label::Minute),
+            LabelCode::Date => DateStamps.read(s).map(Label::Date),
             LabelCode::MissionNumber => Built::<'a, _>::of(Missions).read(s).map(Label::Mission),
             LabelCode::Turn => kind_of!(Turn, self).read(s).map(Label::Turn),
             LabelCode::Replay => Built::<'a, _>::of(Replays).read(s).map(Label::Replay),
@@ -77,9 +75,9 @@ impl<'a> Kind<'a> for Sort<LabelCode> {
 
     fn spell(&self, value: &Label, out: &mut [u8]) -> Result<(), Fault> {
         match (self.code, value) {
-            (LabelCode::Moment, Label::Moment(v)) => Built::<'a, _>::of(Moments).spell(v, out),
-            (LabelCode::Minute, Label::Minute(v)) => Built::<'a, _>::of(Minutes).spell(v, out),
-            (LabelCode::Date, Label::Date(v)) => Built::<'a, _>::of(CalendarDates).spell(v, out),
+            (LabelCode::Moment, Label::Moment(v)) => MomentStamps.spell(v, out),
+            (LabelCode::Minute, Label::Minute(v)) => MinuteStamps.spell(v, out),
+            (LabelCode::Date, Label::Date(v)) => DateStamps.spell(v, out),
             (LabelCode::MissionNumber, Label::Mission(v)) => Built::<'a, _>::of(Missions).spell(
                 v, out,
             ),

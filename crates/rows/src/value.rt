@@ -4,14 +4,12 @@ use codes::sensor::Sensor;
 use codes::turn::Turn;
 use codes::unit::Unit;
 use codes::version::Version;
-use dates::calendar::CalendarDate;
-use dates::minute::Minute;
-use dates::moment::Moment;
 use fields::accuracy::Accuracy;
 use fields::focal::FocalLength;
 use fields::name::Name;
 use fields::segment::EndSegment;
 use fields::spacing::PixelSpacing;
+use fields::stamp::{DateStamp, MinuteStamp, MomentStamp};
 use kinds::capital::Letters;
 use kinds::point::Decimal;
 use kinds::text::TextBytes;
@@ -43,9 +41,9 @@ pub enum Writing<'a> {
 // A date, a time or a code.
 #[derive(Clone, Copy, PartialEq, Eq, Debug)]
 pub enum Label {
-    Moment(Moment),
-    Minute(Minute),
-    Date(CalendarDate),
+    Moment(MomentStamp),
+    Minute(MinuteStamp),
+    Date(DateStamp),
     Mission(Mission),
     Turn(Turn),
     Replay(Replay),
