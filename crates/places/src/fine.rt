@@ -16,8 +16,7 @@ pub struct FineAngle<S> {
 // Printed under the name that it has for its side.
 impl<S: Side + fmt::Debug> fmt::Debug for FineAngle<S> {
     fn fmt<W: fmt::Write>(&self, f: &mut fmt::Formatter<W>) -> fmt::Result {
-        f.write_str("Fine")?;
-        f.debug_struct(S::NAME)
+        f.debug_struct(S::FINE_NAME)
             .field("degrees", &self.degrees)
             .field("minutes", &self.minutes)
             .field("seconds", &self.seconds)

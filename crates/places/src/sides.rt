@@ -14,8 +14,10 @@ pub trait Side: Copy + 'static {
     // the most of them
     const HIGH: u64;
 
-    // what an angle to such a side is called where it is printed
+    // what an angle to such a side is called where it is printed, and one to the fraction of a second
     const NAME: &'static str = "Angle";
+
+    const FINE_NAME: &'static str = "FineAngle";
 
     ghost WIDTH: { ℕ };
 
@@ -45,6 +47,8 @@ impl Side for NorthSouth {
     const HIGH: u64 = 89;
 
     const NAME: &'static str = "Latitude";
+
+    const FINE_NAME: &'static str = "FineLatitude";
 
     ghost WIDTH = { 2 };
 
@@ -78,6 +82,8 @@ impl Side for EastWest {
     const HIGH: u64 = 179;
 
     const NAME: &'static str = "Longitude";
+
+    const FINE_NAME: &'static str = "FineLongitude";
 
     ghost WIDTH = { 3 };
 
